@@ -1,33 +1,30 @@
 -- The first token of expressions that breaks a rule, as the tokens are judged, is the one that
 -- trees tell.
-use Rattle.std.proofs.Common.{◌≡◌, ◌⊎◌, inl, inr, ℕ, ◌+◌, ◌≤◌, ◌<◌, List, [], ◌++◌, length, take, get_or, Bool, true, false, ◌==◌, Option, Some, None, slice_get, option_and_then, if◌then◌else◌, refl, sym, ap, subst, ◌∙◌, append-nil, arith}
+use Rattle.std.proofs.Common.{◌≡◌, ◌⊎◌, inl, inr, ℕ, ◌+◌, ◌≤◌, ◌<◌, List, [], ◌++◌, length, take, get_or, Option, Some, None, option_and_then, refl, sym, ap, subst, ◌∙◌, append-nil, arith}
 use Rattle.std.specs.List.{list_any}
 use Rattle.std.proofs.lemmas.List.{take_all, length-map}
-use Rattle.std.proofs.lemmas.Option.{slice_get-get_or, slice_get_past}
 use Rattle.st_num.specs.declared.mark.Mark.{Mark}
 use Rattle.st_num.specs.declared.mark.Mark.TheVariants as mark
 use Rattle.st_num.specs.declared.word.Word.{Word}
 use Rattle.st_num.specs.declared.word.Word.TheVariants as word
 use Rattle.st_num.specs.declared.rule.RuleId.{RuleId}
-use Rattle.st_num.specs.declared.rule.RuleId.TheVariants.{S1, S4}
 use Rattle.st_num.specs.declared.token.Token.{Token}
 use Rattle.st_num.specs.declared.token.TokenKind.{TokenKind}
 use Rattle.st_num.specs.declared.token.TokenKind.TheVariants as kind
 use Rattle.st_grammar.specs.Terminals.{Terminal, terminal}
 use Rattle.st_grammar.specs.Trees.{Trees}
-use Rattle.st_grammar.proofs.PositionSteps.{is_same}
 use Rattle.st_parse_faults.specs.declared.before.Before.TheVariants as before
 use Rattle.st_parse_faults.specs.inner.LeftOut.{left_out, sign_left_out, word_left_out}
 use Rattle.st_parse_faults.specs.Nesting.{brackets_behind}
 use Rattle.st_parse_faults.specs.inner.Judging.{passed, broken}
 use Rattle.st_parse_faults.specs.Number.{Number}
-use Rattle.st_parse_faults.specs.Faults.{passes_limit}
-use Rattle.st_parse_faults.proofs.JudgingLemmas.{OfGrammar, grammar_s1, grammar_s4, some_token}
-use Rattle.st_parse_faults.proofs.LeftOutForms.{Same}
+use Rattle.st_parse_faults.specs.Faults.{passes_limit, PassesLimit, RuleOf, IsRefused}
+use Rattle.st_parse_faults.proofs.JudgingLemmas.{OfGrammar, grammar_s1, some_token}
+use Rattle.st_parse_faults.proofs.FaultRules.{Same, zero_is, of_grammar, rule_told, one_rule, no_token, rule_at_end}
 use Rattle.st_parse_faults.proofs.PositionNumberFacts.{no_way}
 use Rattle.st_parse.specs.Expressions.{ParseExpressions, terminals_of, RefusedAt}
-use Rattle.st_parse.specs.ExpressionReading.{State, start, step, finish, reading}
-use Rattle.st_parse.specs.ExpressionFaults.{expressions_numbers, Faultless, FrontKept, SignLeftOut, WordLeftOut, LeftOut, PassesLimit, BeginsLeftOut, IsRefused, FirstFault}
+use Rattle.st_parse.specs.inner.ExpressionReading.{State, start, step, finish, reading}
+use Rattle.st_parse.specs.ExpressionFaults.{expressions_numbers, SignLeftOut, WordLeftOut, LeftOut, expression_text, Faultless, FrontKept, FirstFault}
 use Rattle.st_parse.specs.inner.ExpressionFolding.{Seen, refusal, judged, verdict, AllPass, FirstBreak}
 use Rattle.st_parse.proofs.ExpressionReadings.{complete, sound, viable}
 use Rattle.st_parse.proofs.ExpressionVerdicts.{verdict_reads}
@@ -76,16 +73,6 @@ faultless names tokens h =
 
 -- ---- refused tokens
 
-refusal_of_grammar : (seen : Seen) (x : Token) → OfGrammar (refusal seen x)
-refusal_of_grammar seen x = go (left_out before.Other seen.nesting x.kind)
-  where
-    go : (b : Bool) → OfGrammar (if b then S4 else S1)
-    go true = grammar_s4
-    go false = grammar_s1
-
-zero_is : (n : ℕ) → Same (n == 0) (n ≡ 0)
-zero_is n = (λ e. is_same n 0 e, λ e. grind arith)
-
 mark_left_out : (us : List Terminal) (m : Mark) → Same (sign_left_out before.Other (brackets_behind 0 us) m) (SignLeftOut us m)
 mark_left_out us mark.Comma = zero_is (brackets_behind 0 us)
 mark_left_out us mark.Ellipsis = (λ e. tt, λ f. refl)
@@ -110,46 +97,15 @@ left_out_there names tokens k seen x e =
     let i = seeing_front names tokens k seen e in
     subst (λ v. Same (left_out before.Other v x.kind) (LeftOut us x.kind)) (sym (i.nests ∙ (grown us seen.state (verdict_reads names tokens k seen e)).nests)) (kind_left_out us x.kind)
 
-one_token : (tokens : List Token) (k : ℕ) (d y : Token) → k < length tokens → slice_get tokens k ≡ Some y → y ≡ get_or tokens k d
-one_token tokens k d y h e = let both : Some y ≡ Some (get_or tokens k d) = sym e ∙ slice_get-get_or tokens k d h in cc
-
--- the rule of a refused token
-abbrev RuleOf : List (List ℕ) → List Token → ℕ → RuleId → Type 0
-RuleOf names tokens k r = ((r ≡ S4) × BeginsLeftOut names tokens k) ⊎ ((r ≡ S1) × (BeginsLeftOut names tokens k → ⊥))
-
-rule_told : (names : List (List ℕ)) (tokens : List Token) (k : ℕ) (seen : Seen) (d : Token) → k < length tokens → Same (left_out before.Other seen.nesting (get_or tokens k d).kind) (LeftOut (take k (terminals_of names tokens)) (get_or tokens k d).kind)
-    → RuleOf names tokens k (refusal seen (get_or tokens k d))
-rule_told names tokens k seen d h same = go (left_out before.Other seen.nesting (get_or tokens k d).kind) same
-  where
-    x : Token
-    x = get_or tokens k d
-
-    go : (b : Bool) → Same b (LeftOut (take k (terminals_of names tokens)) x.kind) → RuleOf names tokens k (if b then S4 else S1)
-    go true s = inl (refl, (x, slice_get-get_or tokens k d h, s.0 refl))
-    go false s = inr (
-      refl,
-      λ q. let no : false ≡ true = s.1 (subst (λ (y : Token). LeftOut (take k (terminals_of names tokens)) y.kind) (one_token tokens k d q.0 h q.1) q.2) in absurd (cc),
-    )
-
--- there is one rule
-one_rule : (names : List (List ℕ)) (tokens : List Token) (k : ℕ) (q r : RuleId) → RuleOf names tokens k q → RuleOf names tokens k r → q ≡ r
-one_rule names tokens k q r (inl a) (inl b) = a.0 ∙ sym b.0
-one_rule names tokens k q r (inl a) (inr b) = absurd (b.1 a.1)
-one_rule names tokens k q r (inr a) (inl b) = absurd (a.1 b.1)
-one_rule names tokens k q r (inr a) (inr b) = a.0 ∙ sym b.0
-
-no_token : (names : List (List ℕ)) (tokens : List Token) (k : ℕ) → k ≡ length tokens → BeginsLeftOut names tokens k → ⊥
-no_token names tokens k e b = let no : Some b.0 ≡ None = sym b.1 ∙ slice_get_past tokens k (omega (arith, e)) in absurd (cc)
-
 -- ---- the first fault
 
-token_broken : (names : List (List ℕ)) (tokens : List Token) (k : ℕ) (r : RuleId) (seen : Seen) → k < length tokens → verdict names tokens k ≡ passed seen → verdict names tokens (k + 1) ≡ broken r → PassesLimit names tokens k r ⊎ IsRefused names tokens k r
+token_broken : (names : List (List ℕ)) (tokens : List Token) (k : ℕ) (r : RuleId) (seen : Seen) → k < length tokens → verdict names tokens k ≡ passed seen → verdict names tokens (k + 1) ≡ broken r → PassesLimit (expression_text names tokens) k r ⊎ IsRefused (expression_text names tokens) k r
 token_broken names tokens k r seen g e f = go (step seen.state (next_token names tokens k d)) refl
   where
     d : Token
     d = some_token tokens k g
 
-    go : (o : Option State) → step seen.state (next_token names tokens k d) ≡ o → PassesLimit names tokens k r ⊎ IsRefused names tokens k r
+    go : (o : Option State) → step seen.state (next_token names tokens k d) ≡ o → PassesLimit (expression_text names tokens) k r ⊎ IsRefused (expression_text names tokens) k r
     go (Some next) h = inl (passes_there names tokens k r seen d next g e f h)
     go None h =
         let x = get_or tokens k d in
@@ -157,18 +113,18 @@ token_broken names tokens k r seen g e f = go (step seen.state (next_token names
         let both : broken (refusal seen x) ≡ broken r = sym (next_verdict names tokens k seen d g e ∙ ap (judged seen x (next_token names tokens k d)) h) ∙ f in
         cc in
         inr (
-          is_refused names tokens k r (subst OfGrammar is (refusal_of_grammar seen x)) (inl (g, (seen, e), f)),
-          subst (RuleOf names tokens k) is (rule_told names tokens k seen d g (left_out_there names tokens k seen x e)),
+          is_refused names tokens k r (subst OfGrammar is (of_grammar (left_out before.Other seen.nesting x.kind))) (inl (g, (seen, e), f)),
+          subst (RuleOf (expression_text names tokens) k) is (rule_told (expression_text names tokens) k d (left_out before.Other seen.nesting x.kind) g (left_out_there names tokens k seen x e)),
         )
 
 pub first_broken : (names : List (List ℕ)) (tokens : List Token) (k : ℕ) (r : RuleId) → FirstBreak names tokens k r → FirstFault names tokens k r
 first_broken names tokens k r (inl (g, (seen, e), f)) = (kept_front names tokens k seen (omega (arith, g)) e, token_broken names tokens k r seen g e f)
 first_broken names tokens k r (inr (e, i, (seen, f, n))) = (
   kept_front names tokens k seen (omega (arith, e)) f,
-  inr (is_refused names tokens k r (subst OfGrammar (sym i) grammar_s1) (inr (e, i, (seen, f, n))), inr (i, no_token names tokens k e)),
+  inr (is_refused names tokens k r (subst OfGrammar (sym i) grammar_s1) (inr (e, i, (seen, f, n))), inr (i, no_token (expression_text names tokens) k e)),
 )
 
-refused_token : (names : List (List ℕ)) (tokens : List Token) (k : ℕ) (r : RuleId) → FrontKept names tokens k → RefusedAt names tokens k → RuleOf names tokens k r → FirstBreak names tokens k r
+refused_token : (names : List (List ℕ)) (tokens : List Token) (k : ℕ) (r : RuleId) → FrontKept names tokens k → RefusedAt names tokens k → RuleOf (expression_text names tokens) k r → FirstBreak names tokens k r
 refused_token names tokens k r front (inl (g, v, never)) rule = go (step seen.state l) refl
   where
     s : (seen : Seen) × (verdict names tokens k ≡ passed seen)
@@ -189,7 +145,7 @@ refused_token names tokens k r front (inl (g, v, never)) rule = go (step seen.st
         (ap (reading start) (one_more names tokens k d g) ∙ last_step (take k (terminals_of names tokens)) l seen.state (verdict_reads names tokens k seen s.1) ∙ h)))
     go None h =
         let x = get_or tokens k d in
-        let is : refusal seen x ≡ r = one_rule names tokens k (refusal seen x) r (rule_told names tokens k seen d g (left_out_there names tokens k seen x s.1)) rule in
+        let is : refusal seen x ≡ r = one_rule (expression_text names tokens) k (refusal seen x) r (rule_told (expression_text names tokens) k d (left_out before.Other seen.nesting x.kind) g (left_out_there names tokens k seen x s.1)) rule in
         inl (g, (seen, s.1), next_verdict names tokens k seen d g s.1 ∙ ap (judged seen x l) h ∙ ap broken is)
 refused_token names tokens k r front (inr (e, v, never)) rule = go (finish seen.state) refl
   where
@@ -199,14 +155,10 @@ refused_token names tokens k r front (inr (e, v, never)) rule = go (finish seen.
     seen : Seen
     seen = s.0
 
-    last : RuleOf names tokens k r → r ≡ S1
-    last (inl a) = absurd (no_token names tokens k e a.1)
-    last (inr a) = a.0
-
     go : (o : Option Trees) → finish seen.state ≡ o → FirstBreak names tokens k r
     go (Some ts) h =
         absurd (never (ts, subst (λ us. ParseExpressions us ts) (whole_list names tokens k (omega (arith, e))) (sound (take k (terminals_of names tokens)) seen.state ts (verdict_reads names tokens k seen s.1) h)))
-    go None h = inr (e, last rule, (seen, s.1, h))
+    go None h = inr (e, rule_at_end (expression_text names tokens) k r e rule, (seen, s.1, h))
 
 pub broken_first : (names : List (List ℕ)) (tokens : List Token) (k : ℕ) (r : RuleId) → FirstFault names tokens k r → FirstBreak names tokens k r
 broken_first names tokens k r (front, inl p) =

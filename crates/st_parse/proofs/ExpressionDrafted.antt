@@ -42,7 +42,7 @@ use Rattle.st_parse_automaton.proofs.Simulation.{Agree, moves_are, agreed}
 use Rattle.st_parse_automaton.proofs.DefinitionSimulation.{is_some}
 use Rattle.st_parse_automaton.specs.inner.PartAutomaton.{finishing, followed, emissions}
 use Rattle.st_parse_automaton.proofs.Emissions.{part_emits}
-use Rattle.st_parse.specs.ExpressionReading.{State, begun, turn, goes, step, start}
+use Rattle.st_parse.specs.inner.ExpressionReading.{State, begun, turn, goes, step, start}
 use Rattle.st_parse_faults.specs.inner.Judging.{passed, limited}
 use Rattle.st_parse.specs.inner.ExpressionFolding.{Seen, opens_too_many, passes_limit, seen_after, judged, judge}
 use Rattle.st_parse.specs.inner.ExpressionDrafts.{IsBuilt, AreBuilt, with_exp, draft, with_actions, Completes, Ends, Turns, Takes}

@@ -7,7 +7,7 @@ use Rattle.st_num.specs.declared.token.Token.{Token}
 use Rattle.st_grammar.specs.Terminals.{Terminal, terminal}
 use Rattle.st_grammar.specs.Trees.{Trees}
 use Rattle.st_parse.specs.Expressions.{terminals_of, IsViable, RefusedAt}
-use Rattle.st_parse.specs.ExpressionReading.{State, start, step, finish, reading}
+use Rattle.st_parse.specs.inner.ExpressionReading.{State, start, step, finish, reading}
 use Rattle.st_parse_faults.specs.inner.Judging.{passed, broken}
 use Rattle.st_parse.specs.inner.ExpressionFolding.{Seen, opens_too_many, passes_limit, seen_after, judged, judge, verdict, nothing_seen, ended, AllPass, FirstBreak}
 use Rattle.st_parse.proofs.ExpressionReadings.{reading_append, complete, viable, dead}

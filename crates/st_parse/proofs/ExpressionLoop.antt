@@ -21,7 +21,7 @@ use Rattle.st_parse_faults.specs.declared.judge.TokenVerdict.{TokenVerdict as Co
 use Rattle.st_parse_faults.specs.declared.judge.TokenVerdict.TheVariants as code
 use Rattle.st_parse_faults.specs.inner.Seen as seen
 use Rattle.st_parse.specs.Expressions.{terminals_of}
-use Rattle.st_parse.specs.ExpressionReading.{whole}
+use Rattle.st_parse.specs.inner.ExpressionReading.{whole}
 use Rattle.st_parse_faults.specs.inner.Judging.{TokenVerdict, passed, broken}
 use Rattle.st_parse.specs.inner.ExpressionFolding.{Seen, judge, verdict, nothing_seen, FirstBreak}
 use Rattle.st_parse.specs.inner.ExpressionSeen as spec

@@ -3,8 +3,7 @@
 use Rattle.std.proofs.Common.{◌≡◌, ℕ, ◌+◌, ◌≤◌, ◌<◌, List, [], ◌∷◌, ◌++◌, length, map, take, get_or, Bool, true, false, ◌&&◌, ◌||◌, nat_lt, Option, Some, None, option_and_then, if◌then◌else◌, refl, sym, ap, subst, ◌∙◌, append_assoc, append-nil, arith}
 use Rattle.std.specs.List.{list_any}
 use Rattle.std.proofs.lemmas.List.{take-map, length-map, length-take}
-use Rattle.std.proofs.lemmas.List.Folds.{list_any-append}
-use Rattle.std.proofs.Math.Seq.{take-append_seam, get_or-append_seam}
+use Rattle.std.proofs.Math.Seq.{take-append_seam}
 use Rattle.st_num.specs.declared.limit.TheConstants.{HIGHEST_TREE}
 use Rattle.st_num.specs.declared.mark.Mark.{Mark}
 use Rattle.st_num.specs.declared.rule.RuleId.{RuleId}
@@ -19,23 +18,23 @@ use Rattle.st_grammar.specs.Reading as part
 use Rattle.st_grammar.specs.Positions as positions
 use Rattle.st_grammar.proofs.PositionSteps.{signed_is}
 use Rattle.st_grammar.proofs.PositionTexts as texts
-use Rattle.st_parse_faults.specs.Nesting.{nesting_after, brackets_behind, frame_bars, part_bars, may_open}
+use Rattle.st_parse_faults.specs.Nesting.{nesting_after, brackets_behind}
+use Rattle.st_parse_faults.specs.inner.Bars.{frame_bars, part_bars, may_open}
 use Rattle.st_parse_faults.specs.inner.Limits.{part_tallies, tally_passes}
 use Rattle.st_parse_faults.specs.inner.Judging.{passed, broken, limited, judge_all}
 use Rattle.st_parse_faults.specs.Number.{Number, too_deep, too_many}
 use Rattle.st_parse_faults.specs.Numbers.{Context, context, no_entries, numbers}
 use Rattle.st_parse_faults.specs.DefinitionNumbers.{alone}
-use Rattle.st_parse_faults.specs.Faults.{passes_limit, limit_rule, KeepsLimits}
+use Rattle.st_parse_faults.specs.Faults.{passes_limit, limit_rule, NonePasses, PassesLimit}
 use Rattle.st_parse_faults.specs.inner.Numbering.{state_numbers, frame_brackets, part_brackets}
-use Rattle.st_parse_faults.proofs.KeptTallies.{neither}
-use Rattle.st_parse_faults.proofs.NumberFacts.{or_false}
+use Rattle.st_parse_faults.proofs.Entries.{below, front_clear, entry_clear, more_clear, entry_at, limit_broken, broken_limit}
 use Rattle.st_parse_faults.proofs.NumberBegins as inner
 use Rattle.st_parse_faults.proofs.NumberSteps.{lowers, part_steps, part_ends}
 use Rattle.st_parse_faults.proofs.JudgingLemmas as judging
 use Rattle.st_parse_faults.proofs.JudgingLemmas.{never_passes}
 use Rattle.st_parse.specs.Expressions.{ParseExpressions, terminals_of}
-use Rattle.st_parse.specs.ExpressionReading.{State, begun, turn, goes, step, whole, finish, reading, start}
-use Rattle.st_parse.specs.ExpressionFaults.{expression_numbers, expressions_numbers, FrontKept, PassesLimit}
+use Rattle.st_parse.specs.inner.ExpressionReading.{State, begun, turn, goes, step, whole, finish, reading, start}
+use Rattle.st_parse.specs.ExpressionFaults.{expression_numbers, expressions_numbers, expression_text, FrontKept}
 use Rattle.st_parse.specs.inner.ExpressionFolding as folding
 use Rattle.st_parse.specs.inner.ExpressionFolding.{Seen, opens_too_many, seen_after, refusal, judged, judge, verdict, nothing_seen}
 use Rattle.st_parse.proofs.ExpressionReadings.{at, reading_append, complete, Reached, ReachedBy, stepped, reached, viable}
@@ -186,27 +185,6 @@ finishes st ts h e = go (part.finish st.here) refl e
         let is : more st.before st.apart t ≡ ts = cc in
         ap (λ v. expressions_numbers st.before ++ (no_entries st.apart ++ v)) (whole_numbers st t h f) ∙ ap expressions_numbers is
 
--- ---- entries
-
-below : (a b : ℕ) → nat_lt a b ≡ false → b ≤ a
-below a b e = grind arith
-
-front_clear : (xs ys : List (List Number)) → KeepsLimits (xs ++ ys) → KeepsLimits xs
-front_clear xs ys e = (neither (list_any passes_limit xs) (list_any passes_limit ys) (sym (list_any-append passes_limit xs ys) ∙ e)).0
-
-entry_clear : (xs : List (List Number)) (e : List Number) → KeepsLimits (xs ++ e ∷ []) → (list_any too_deep e ≡ false) × (list_any too_many e ≡ false)
-entry_clear xs e f =
-    let last = (neither (list_any passes_limit xs) (passes_limit e || false) (sym (list_any-append passes_limit xs (e ∷ [])) ∙ f)).1 in
-    neither (list_any too_deep e) (list_any too_many e) (sym (or_false (passes_limit e)) ∙ last)
-
-more_clear : (xs : List (List Number)) (e : List Number) → KeepsLimits xs → list_any too_deep e ≡ false → list_any too_many e ≡ false → KeepsLimits (xs ++ e ∷ [])
-more_clear xs e f d m =
-    list_any-append passes_limit xs (e ∷ [])
-    ∙ ap (λ v. v || (passes_limit e || false)) f
-    ∙ or_false (passes_limit e)
-    ∙ ap (λ v. v || list_any too_many e) d
-    ∙ m
-
 -- ---- readings
 
 -- what more tokens add
@@ -273,7 +251,7 @@ pub record Seeing (seen : Seen) : Type 0 where
   pub nests : seen.nesting ≡ brackets seen.state
   pub low : passes seen.state ≡ false
   pub shallow : brackets seen.state + part_bars seen.state.here ≤ HIGHEST_TREE
-  pub clear : KeepsLimits (read_numbers seen.state)
+  pub clear : NonePasses (read_numbers seen.state)
 
 nothing_is : Seeing nothing_seen
 nothing_is = record { held = start_held; nests = refl; low = refl; shallow = omega arith; clear = refl }
@@ -323,7 +301,7 @@ module _ (names : List (List ℕ)) where
           by false d false m g = later (seen_after seen l next) (seeing_next seen l next q i s d m) g
 
   -- what is read and passes no limit is passed
-  pub passing : (xs : List Token) (seen : Seen) (st : State) → Seeing seen → reading seen.state (map (terminal names) xs) ≡ Some st → KeepsLimits (read_numbers st) → (last : Seen) × (judge_all (judge names) (passed seen) xs ≡ passed last)
+  pub passing : (xs : List Token) (seen : Seen) (st : State) → Seeing seen → reading seen.state (map (terminal names) xs) ≡ Some st → NonePasses (read_numbers st) → (last : Seen) × (judge_all (judge names) (passed seen) xs ≡ passed last)
   passing [] seen st i e c = (seen, refl)
   passing (x ∷ xs) seen st i e c = go (step seen.state (terminal names x)) (steps seen.state (terminal names x) i.held) (held_next seen.state (terminal names x) i.held) e (λ mid j f. passing xs mid st j f c)
     where
@@ -371,31 +349,12 @@ front_passes names tokens k h (ts, b, c) =
 
 -- ---- one more token
 
-entry_at : (xs es : List (List Number)) (e : List Number) (k : ℕ) → length xs ≡ k → get_or ((xs ++ e ∷ []) ++ es) k [] ≡ e
-entry_at xs es e k h = ap (λ n. get_or ((xs ++ e ∷ []) ++ es) n []) (sym h) ∙ ap (λ v. get_or v (length xs) []) (append_assoc xs (e ∷ []) es) ∙ get_or-append_seam xs e es []
-
 -- the entry of the token behind these
 last_entry : (us : List Terminal) (l : Terminal) (st next : State) (ts : Trees) (k : ℕ) → reading start us ≡ Some st → k ≡ length us → (s : Step st l next) → Fronts (us ++ l ∷ []) next ts → get_or (expressions_numbers ts) k [] ≡ s.entry
 last_entry us l st next ts k e h s f =
     let g = grown us st e in
     ap (λ v. get_or v k []) (f.grown ∙ ap (λ v. v ++ f.entries) s.grown)
     ∙ entry_at (read_numbers st) f.entries s.entry k (ap (length {A = List Number}) g.grown ∙ g.long ∙ sym h)
-
-limit_broken : (e : List Number) (r : RuleId) (s : Seen) → limited (list_any too_deep e) (list_any too_many e) s ≡ broken r → limit_rule e ≡ Some r
-limit_broken e r s f = go (list_any too_deep e) (list_any too_many e) f
-  where
-    go : (a b : Bool) → limited a b s ≡ broken r → (if a then Some S2 else if b then Some S3 else None) ≡ Some r
-    go true b g = let is : S2 ≡ r = cc in ap Some is
-    go false true g = let is : S3 ≡ r = cc in ap Some is
-    go false false g = absurd (cc)
-
-broken_limit : (e : List Number) (r : RuleId) (s : Seen) → limit_rule e ≡ Some r → limited (list_any too_deep e) (list_any too_many e) s ≡ broken r
-broken_limit e r s f = go (list_any too_deep e) (list_any too_many e) f
-  where
-    go : (a b : Bool) → (if a then Some S2 else if b then Some S3 else None) ≡ Some r → limited a b s ≡ broken r
-    go true b g = let is : S2 ≡ r = cc in ap broken is
-    go false true g = let is : S3 ≡ r = cc in ap broken is
-    go false false g = absurd (cc)
 
 -- the verdict on token k, where those before it pass
 abbrev pub next_token : List (List ℕ) → List Token → ℕ → Token → Terminal
@@ -407,7 +366,7 @@ next_verdict names tokens k seen d h e =
     ∙ ap (λ w. judging.judge_next Seen (judge names) w (get_or tokens k d)) e
 
 pub passes_there : (names : List (List ℕ)) (tokens : List Token) (k : ℕ) (r : RuleId) (seen : Seen) (d : Token) (next : State) → k < length tokens → verdict names tokens k ≡ passed seen → verdict names tokens (k + 1) ≡ broken r → step seen.state (next_token names tokens k d) ≡ Some next
-    → PassesLimit names tokens k r
+    → PassesLimit (expression_text names tokens) k r
 passes_there names tokens k r seen d next h e f g =
     let us = take k (terminals_of names tokens) in
     let l = next_token names tokens k d in
@@ -422,9 +381,9 @@ passes_there names tokens k r seen d next h e f g =
     let entry : get_or (expressions_numbers v.1) k [] ≡ s.entry = last_entry us l seen.state next v.1 k read (taken_long names tokens k (omega (arith, h))) s (subst (λ w. Fronts (us ++ l ∷ []) w v.1) same q.2) in
     let verdict_is : limited (list_any too_deep s.entry) (list_any too_many s.entry) (seen_after seen l next) ≡ broken r =
     sym (limited_is seen l next i s) ∙ sym (ap (judged seen (get_or tokens k d) l) g) ∙ sym (next_verdict names tokens k seen d h e) ∙ f in
-    (h, (v.1, record { rest = v.0; grammar = v.2 }, ap limit_rule entry ∙ limit_broken s.entry r (seen_after seen l next) verdict_is))
+    (h, (v.1, record { rest = v.0; grammar = v.2 }, ap limit_rule entry ∙ limit_broken Seen s.entry r (seen_after seen l next) verdict_is))
 
-pub breaks_there : (names : List (List ℕ)) (tokens : List Token) (k : ℕ) (r : RuleId) (seen : Seen) (d : Token) → verdict names tokens k ≡ passed seen → PassesLimit names tokens k r → verdict names tokens (k + 1) ≡ broken r
+pub breaks_there : (names : List (List ℕ)) (tokens : List Token) (k : ℕ) (r : RuleId) (seen : Seen) (d : Token) → verdict names tokens k ≡ passed seen → PassesLimit (expression_text names tokens) k r → verdict names tokens (k + 1) ≡ broken r
 breaks_there names tokens k r seen d e (h, (ts, b, f)) =
     let us = take k (terminals_of names tokens) in
     let l = next_token names tokens k d in
@@ -439,4 +398,4 @@ breaks_there names tokens k r seen d e (h, (ts, b, f)) =
     next_verdict names tokens k seen d h e
     ∙ ap (judged seen (get_or tokens k d) l) g
     ∙ limited_is seen l q.0 i s
-    ∙ broken_limit s.entry r (seen_after seen l q.0) (ap limit_rule (sym entry) ∙ f)
+    ∙ broken_limit Seen s.entry r (seen_after seen l q.0) (ap limit_rule (sym entry) ∙ f)

@@ -38,7 +38,7 @@ use Rattle.st_parse_automaton.specs.inner.PartAutomaton.{finishing}
 use Rattle.st_num.specs.declared.fault.Fault.{Fault as SyntaxFault}
 use Rattle.st_num.specs.declared.fault.Fault.TheVariants.{Refused, Memory}
 use Rattle.st_parse.specs.Expressions.{ParseExpressions, terminals_of}
-use Rattle.st_parse.specs.ExpressionReading.{finish, whole}
+use Rattle.st_parse.specs.inner.ExpressionReading.{finish, whole}
 use Rattle.st_parse_faults.specs.inner.Judging.{passed}
 use Rattle.st_parse.specs.inner.ExpressionFolding.{Seen, judge, verdict, nothing_seen, FirstBreak}
 use Rattle.st_parse.specs.inner.ExpressionSeen as spec

@@ -17,7 +17,7 @@ use Rattle.st_grammar.proofs.Completions as completions
 use Rattle.st_grammar.proofs.Steps as steps
 use Rattle.st_grammar.proofs.PositionSteps.{comma_sets_off}
 use Rattle.st_parse.specs.Expressions.{ParseExpressions, ViableExpressions}
-use Rattle.st_parse.specs.ExpressionReading.{State, begun, turn, goes, step, whole, finish, reading, reads, start}
+use Rattle.st_parse.specs.inner.ExpressionReading.{State, begun, turn, goes, step, whole, finish, reading, reads, start}
 
 -- ---- a comma behind a whole expression
 

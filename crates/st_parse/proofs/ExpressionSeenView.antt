@@ -38,7 +38,7 @@ use Rattle.st_parse_faults.specs.inner.LeftOut.{is_type_in, type_or_other, befor
 use Rattle.st_parse_faults.specs.inner.Folding as defs
 use Rattle.st_parse_faults.specs.inner.Seen as judging
 use Rattle.st_parse_faults.proofs.SeenView as view
-use Rattle.st_parse.specs.ExpressionReading.{begun, turn, goes, step}
+use Rattle.st_parse.specs.inner.ExpressionReading.{begun, turn, goes, step}
 use Rattle.st_parse_faults.specs.inner.Judging.{TokenVerdict, passed, broken, limited}
 use Rattle.st_parse.specs.inner.ExpressionFolding.{Seen, opens_too_many, passes_limit, refusal, seen_after, judged, judge}
 use Rattle.st_parse.specs.inner.ExpressionSeen as spec

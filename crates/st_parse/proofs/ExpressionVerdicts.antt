@@ -5,7 +5,7 @@ use Rattle.st_num.specs.declared.rule.RuleId.TheVariants.{S2, S3}
 use Rattle.st_num.specs.declared.token.Token.{Token}
 use Rattle.st_grammar.specs.Terminals.{terminal}
 use Rattle.st_parse.specs.Expressions.{terminals_of}
-use Rattle.st_parse.specs.ExpressionReading.{State, start, step, reading}
+use Rattle.st_parse.specs.inner.ExpressionReading.{State, start, step, reading}
 use Rattle.st_parse_faults.specs.inner.Judging.{passed, limited, judge_all}
 use Rattle.st_parse_faults.proofs.JudgingLemmas.{never_passes}
 use Rattle.st_parse.specs.inner.ExpressionFolding.{Seen, opens_too_many, passes_limit, seen_after, refusal, judged, judge, verdict, nothing_seen}

@@ -6,7 +6,7 @@ use Rattle.st_num.specs.declared.token.Token.{Token}
 use Rattle.st_parse_faults.specs.inner.Judging.{passed, broken}
 use Rattle.st_grammar.specs.Positions.{start, reading}
 use Rattle.st_parse_automaton.specs.Refusal.{terminals_of}
-use Rattle.st_parse_faults.specs.Faults.{FrontKept, FirstFault}
+use Rattle.st_parse_faults.specs.DefinitionFaults.{FrontKept, FirstFault}
 use Rattle.st_parse_faults.specs.inner.Folding.{FirstBreak}
 use Rattle.st_parse_faults.specs.Place.{place_at}
 use Rattle.st_parse_faults.proofs.Exact.{front_passes}

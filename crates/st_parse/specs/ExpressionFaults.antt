@@ -1,12 +1,10 @@
--- The first token of expressions that breaks a rule, and the rule: told by the text, and by the
--- trees of expressions that begin with it.
-use Rattle.std.specs.Prelude.{◌≡◌, ℕ, ◌+◌, ◌<◌, ◌⊎◌, List, [], ◌++◌, length, take, get_or, Some, slice_get, false}
+-- The first token of expressions that breaks a rule, and the rule.
+use Rattle.std.specs.Prelude.{◌≡◌, ℕ, List, [], ◌++◌, false}
 use Rattle.st_num.specs.declared.mark.Mark.{Mark}
 use Rattle.st_num.specs.declared.mark.Mark.TheVariants as mark
 use Rattle.st_num.specs.declared.word.Word.{Word}
 use Rattle.st_num.specs.declared.word.Word.TheVariants as word
 use Rattle.st_num.specs.declared.rule.RuleId.{RuleId}
-use Rattle.st_num.specs.declared.rule.RuleId.TheVariants.{S1, S4}
 use Rattle.st_num.specs.declared.token.Token.{Token}
 use Rattle.st_num.specs.declared.token.TokenKind.{TokenKind}
 use Rattle.st_num.specs.declared.token.TokenKind.TheVariants as kind
@@ -17,8 +15,9 @@ use Rattle.st_parse_faults.specs.Nesting.{brackets_behind}
 use Rattle.st_parse_faults.specs.Number.{Number}
 use Rattle.st_parse_faults.specs.Numbers.{no_entries, numbers}
 use Rattle.st_parse_faults.specs.DefinitionNumbers.{alone}
-use Rattle.st_parse_faults.specs.Faults.{limit_rule, KeepsLimits}
-use Rattle.st_parse.specs.Expressions.{ParseExpressions, terminals_of, RefusedAt}
+use Rattle.st_parse_faults.specs.Faults as fault
+use Rattle.st_parse_faults.specs.Faults.{Text}
+use Rattle.st_parse.specs.Expressions.{ParseExpressions, RefusedAt}
 
 -- ---- numbers
 
@@ -32,26 +31,6 @@ abbrev pub expressions_numbers : Trees → List (List Number)
 expressions_numbers none = []
 expressions_numbers (more ts pre t) =
     expressions_numbers ts ++ (no_entries pre ++ expression_numbers t)
-
--- No token has a fault: the tokens are expressions, and none passes a limit.
-abbrev pub Faultless : List (List ℕ) → List Token → Type 0
-Faultless names tokens =
-    (ts : Trees) × ParseExpressions (terminals_of names tokens) ts
-    × KeepsLimits (expressions_numbers ts)
-
--- ---- fronts
-
--- The expressions begin with the first k tokens.
-pub record BeginWith (names : List (List ℕ)) (tokens : List Token) (k : ℕ) (ts : Trees) : Type 0
-  where
-    pub rest : List Token
-    pub grammar :
-        ParseExpressions (take k (terminals_of names tokens) ++ terminals_of names rest) ts
-
--- Expressions begin with the first k tokens, and none of these passes a limit.
-abbrev pub FrontKept : List (List ℕ) → List Token → ℕ → Type 0
-FrontKept names tokens k =
-    (ts : Trees) × BeginWith names tokens k ts × KeepsLimits (take k (expressions_numbers ts))
 
 -- ---- forms that are left out of the grammar
 
@@ -78,27 +57,26 @@ LeftOut us k = ⊥
 
 -- ---- faults
 
--- Expressions begin with the tokens up to token k, which passes a limit of this rule.
-abbrev pub PassesLimit : List (List ℕ) → List Token → ℕ → RuleId → Type 0
-PassesLimit names tokens k r =
-    (k < length tokens)
-    × ((ts : Trees) × BeginWith names tokens (k + 1) ts
-    × (limit_rule (get_or (expressions_numbers ts) k []) ≡ Some r))
+-- tokens that are to be expressions, where these names are declared by `var`
+abbrev pub expression_text : List (List ℕ) → List Token → Text
+expression_text names tokens = record {
+  tokens = tokens;
+  names = names;
+  Trees = Trees;
+  Parse = ParseExpressions;
+  numbers = expressions_numbers;
+  Refuses = RefusedAt names tokens;
+  LeavesOut = λ us (x : Token). LeftOut us x.kind;
+}
 
--- Token k begins a form that is left out of the grammar.
-abbrev pub BeginsLeftOut : List (List ℕ) → List Token → ℕ → Type 0
-BeginsLeftOut names tokens k =
-    (x : Token) × (slice_get tokens k ≡ Some x)
-    × LeftOut (take k (terminals_of names tokens)) x.kind
+-- No token has a fault: the tokens are expressions, and none passes a limit.
+abbrev pub Faultless : List (List ℕ) → List Token → Type 0
+Faultless names tokens = fault.Faultless (expression_text names tokens)
 
--- The grammar refuses token k, or the end there, by this rule.
-abbrev pub IsRefused : List (List ℕ) → List Token → ℕ → RuleId → Type 0
-IsRefused names tokens k r =
-    RefusedAt names tokens k
-    × (((r ≡ S4) × BeginsLeftOut names tokens k)
-    ⊎ ((r ≡ S1) × (BeginsLeftOut names tokens k → ⊥)))
+-- Expressions begin with the first k tokens, and none of these passes a limit.
+abbrev pub FrontKept : List (List ℕ) → List Token → ℕ → Type 0
+FrontKept names tokens k = fault.FrontKept (expression_text names tokens) k
 
 -- The first token that breaks a rule is token k, or the end there, and it breaks this one.
 abbrev pub FirstFault : List (List ℕ) → List Token → ℕ → RuleId → Type 0
-FirstFault names tokens k r =
-    FrontKept names tokens k × (PassesLimit names tokens k r ⊎ IsRefused names tokens k r)
+FirstFault names tokens k r = fault.FirstFault (expression_text names tokens) k r

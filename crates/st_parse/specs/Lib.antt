@@ -16,7 +16,5 @@ pub mod Expressions
 pub mod ExpressionFaults
 -- the expressions that the tokens mean, or the first fault
 pub mod ExpressionSource
--- how far the tokens of expressions are read, for a law
-pub mod ExpressionReading
 -- ---- what only proofs need
 pub mod inner

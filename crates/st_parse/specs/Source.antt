@@ -7,7 +7,7 @@ use Rattle.st_num.specs.declared.token.Token.{Token}
 use Rattle.st_grammar.specs.Terminals.{declared_names}
 use Rattle.st_grammar.specs.Positions.{State, start, reading}
 use Rattle.st_parse_automaton.specs.Refusal.{terminals_of}
-use Rattle.st_parse_faults.specs.Faults.{Faultless, FrontKept, FirstFault}
+use Rattle.st_parse_faults.specs.DefinitionFaults.{Faultless, FrontKept, FirstFault}
 use Rattle.st_parse_faults.specs.Place.{place_at}
 use Rattle.st_el.specs.declared.definition.Def.{Def}
 use Rattle.st_parse_builder.specs.Definitions.{Parse}

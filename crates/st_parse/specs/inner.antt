@@ -11,6 +11,7 @@ pub mod Cuts
 pub mod Readers
 pub mod DefinitionReading
 pub mod Found
+pub mod ExpressionReading
 pub mod ExpressionFolding
 pub mod ExpressionSeen
 pub mod ExpressionDrafts

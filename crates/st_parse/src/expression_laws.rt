@@ -11,7 +11,7 @@ ghost use Rattle.st_grammar.specs.Terminals.{Terminal};
 ghost use Rattle.st_grammar.specs.Trees.{Trees};
 ghost use Rattle.st_parse.specs.Expressions.{ParseExpressions, ViableExpressions, AreExpressions, RefusedAt};
 ghost use Rattle.st_parse.specs.ExpressionSource.{ParseExps, Answers};
-ghost use Rattle.st_parse.specs.ExpressionReading as read;
+ghost use Rattle.st_parse.specs.inner.ExpressionReading as read;
 ghost use Rattle.st_parse.specs.ExpressionFaults.{Faultless, FirstFault, expressions_numbers};
 ghost use Rattle.st_parse.specs.inner.ExpressionFolding.{AllPass, FirstBreak};
 

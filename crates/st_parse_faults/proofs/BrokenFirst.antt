@@ -1,10 +1,8 @@
 -- The first token that breaks a rule, as the tokens are judged, is the one that trees tell.
-use Rattle.std.proofs.Common.{◌≡◌, ◌⊎◌, inl, inr, ℕ, ◌+◌, ◌≤◌, ◌<◌, List, [], ◌++◌, length, take, get_or, Bool, true, false, Option, Some, None, slice_get, option_and_then, if◌then◌else◌, refl, sym, ap, subst, ◌∙◌, append-nil, arith}
+use Rattle.std.proofs.Common.{◌≡◌, ◌⊎◌, inl, inr, ℕ, ◌+◌, ◌≤◌, ◌<◌, List, [], ◌++◌, length, take, get_or, Option, Some, None, option_and_then, refl, sym, ap, subst, ◌∙◌, append-nil, arith}
 use Rattle.std.specs.List.{list_any}
 use Rattle.std.proofs.lemmas.List.{take_all, length-map}
-use Rattle.std.proofs.lemmas.Option.{slice_get-get_or, slice_get_past}
 use Rattle.st_num.specs.declared.rule.RuleId.{RuleId}
-use Rattle.st_num.specs.declared.rule.RuleId.TheVariants.{S1, S4}
 use Rattle.st_num.specs.declared.token.Token.{Token}
 use Rattle.st_grammar.specs.Terminals.{Terminal, terminal, declared_names}
 use Rattle.st_grammar.specs.Definitions.{Defs, ParseDefs}
@@ -20,13 +18,15 @@ use Rattle.st_parse_faults.specs.inner.Folding.{Seen, refusal, judged, verdict, 
 use Rattle.st_parse_faults.specs.Number.{Number}
 use Rattle.st_parse_faults.specs.DefinitionNumbers.{defs_numbers}
 use Rattle.st_parse_faults.specs.FormsLeftOut.{LeftOut}
-use Rattle.st_parse_faults.specs.Faults.{passes_limit, Faultless, FrontKept, PassesLimit, BeginsLeftOut, IsRefused, FirstFault}
-use Rattle.st_parse_faults.proofs.JudgingLemmas.{OfGrammar, grammar_s1, grammar_s4, some_token}
+use Rattle.st_parse_faults.specs.Faults.{passes_limit, PassesLimit, RuleOf, IsRefused}
+use Rattle.st_parse_faults.specs.DefinitionFaults.{definition_text, Faultless, FrontKept, FirstFault}
+use Rattle.st_parse_faults.proofs.JudgingLemmas.{OfGrammar, grammar_s1, some_token}
 use Rattle.st_parse_faults.proofs.Verdicts.{verdict_reads}
 use Rattle.st_parse_faults.proofs.Exact.{one_fault, never_both, is_refused, not_later}
 use Rattle.st_parse_faults.proofs.PositionNumberSteps.{finishes}
 use Rattle.st_parse_faults.proofs.NumberVerdicts.{grown, seeing_front, kept_front, front_passes, next_token, next_verdict, passes_there, breaks_there}
-use Rattle.st_parse_faults.proofs.LeftOutForms.{Same, left_out_is}
+use Rattle.st_parse_faults.proofs.LeftOutForms.{left_out_is}
+use Rattle.st_parse_faults.proofs.FaultRules.{Same, of_grammar, rule_told, one_rule, no_token, rule_at_end}
 
 -- ---- an entry for each token
 
@@ -70,13 +70,6 @@ faultless tokens h =
 
 -- ---- refused tokens
 
-refusal_of_grammar : (seen : Seen) (x : Token) → OfGrammar (refusal seen x)
-refusal_of_grammar seen x = go (left_out (before_next seen.state) seen.nesting x.kind)
-  where
-    go : (b : Bool) → OfGrammar (if b then S4 else S1)
-    go true = grammar_s4
-    go false = grammar_s1
-
 -- the forms that are left out, by what is seen
 left_out_there : (tokens : List Token) (k : ℕ) (seen : Seen) (x : Token) → verdict tokens k ≡ passed seen → step seen.state (terminal (declared_names tokens) x) ≡ None
     → Same (left_out (before_next seen.state) seen.nesting x.kind) (LeftOut (declared_names tokens) (take k (terminals_of tokens)) x)
@@ -87,46 +80,15 @@ left_out_there tokens k seen x e n =
     subst (λ v. Same (left_out (before_next seen.state) v x.kind) (LeftOut (declared_names tokens) us x)) (sym (i.nests ∙ (grown us seen.state read).nests))
     (left_out_is (declared_names tokens) us seen.state x read n)
 
-one_token : (tokens : List Token) (k : ℕ) (d y : Token) → k < length tokens → slice_get tokens k ≡ Some y → y ≡ get_or tokens k d
-one_token tokens k d y h e = let both : Some y ≡ Some (get_or tokens k d) = sym e ∙ slice_get-get_or tokens k d h in cc
-
--- the rule of a refused token
-abbrev RuleOf : List Token → ℕ → RuleId → Type 0
-RuleOf tokens k r = ((r ≡ S4) × BeginsLeftOut tokens k) ⊎ ((r ≡ S1) × (BeginsLeftOut tokens k → ⊥))
-
-rule_told : (tokens : List Token) (k : ℕ) (seen : Seen) (d : Token) → k < length tokens → Same (left_out (before_next seen.state) seen.nesting (get_or tokens k d).kind) (LeftOut (declared_names tokens) (take k (terminals_of tokens)) (get_or tokens k d))
-    → RuleOf tokens k (refusal seen (get_or tokens k d))
-rule_told tokens k seen d h same = go (left_out (before_next seen.state) seen.nesting (get_or tokens k d).kind) same
-  where
-    x : Token
-    x = get_or tokens k d
-
-    go : (b : Bool) → Same b (LeftOut (declared_names tokens) (take k (terminals_of tokens)) x) → RuleOf tokens k (if b then S4 else S1)
-    go true s = inl (refl, (x, slice_get-get_or tokens k d h, s.0 refl))
-    go false s = inr (
-      refl,
-      λ q. let no : false ≡ true = s.1 (subst (LeftOut (declared_names tokens) (take k (terminals_of tokens))) (one_token tokens k d q.0 h q.1) q.2) in absurd (cc),
-    )
-
--- there is one rule
-one_rule : (tokens : List Token) (k : ℕ) (q r : RuleId) → RuleOf tokens k q → RuleOf tokens k r → q ≡ r
-one_rule tokens k q r (inl a) (inl b) = a.0 ∙ sym b.0
-one_rule tokens k q r (inl a) (inr b) = absurd (b.1 a.1)
-one_rule tokens k q r (inr a) (inl b) = absurd (a.1 b.1)
-one_rule tokens k q r (inr a) (inr b) = a.0 ∙ sym b.0
-
-no_token : (tokens : List Token) (k : ℕ) → k ≡ length tokens → BeginsLeftOut tokens k → ⊥
-no_token tokens k e b = let no : Some b.0 ≡ None = sym b.1 ∙ slice_get_past tokens k (omega (arith, e)) in absurd (cc)
-
 -- ---- the first fault
 
-token_broken : (tokens : List Token) (k : ℕ) (r : RuleId) (seen : Seen) → k < length tokens → verdict tokens k ≡ passed seen → verdict tokens (k + 1) ≡ broken r → PassesLimit tokens k r ⊎ IsRefused tokens k r
+token_broken : (tokens : List Token) (k : ℕ) (r : RuleId) (seen : Seen) → k < length tokens → verdict tokens k ≡ passed seen → verdict tokens (k + 1) ≡ broken r → PassesLimit (definition_text tokens) k r ⊎ IsRefused (definition_text tokens) k r
 token_broken tokens k r seen g e f = go (step seen.state (next_token tokens k d)) refl
   where
     d : Token
     d = some_token tokens k g
 
-    go : (o : Option State) → step seen.state (next_token tokens k d) ≡ o → PassesLimit tokens k r ⊎ IsRefused tokens k r
+    go : (o : Option State) → step seen.state (next_token tokens k d) ≡ o → PassesLimit (definition_text tokens) k r ⊎ IsRefused (definition_text tokens) k r
     go (Some next) h = inl (passes_there tokens k r seen d next g e f h)
     go None h =
         let x = get_or tokens k d in
@@ -134,18 +96,18 @@ token_broken tokens k r seen g e f = go (step seen.state (next_token tokens k d)
         let both : broken (refusal seen x) ≡ broken r = sym (next_verdict tokens k seen d g e ∙ ap (judged seen x (next_token tokens k d)) h) ∙ f in
         cc in
         inr (
-          is_refused tokens k r (subst OfGrammar is (refusal_of_grammar seen x)) (inl (g, (seen, e), f)),
-          subst (RuleOf tokens k) is (rule_told tokens k seen d g (left_out_there tokens k seen x e h)),
+          is_refused tokens k r (subst OfGrammar is (of_grammar (left_out (before_next seen.state) seen.nesting x.kind))) (inl (g, (seen, e), f)),
+          subst (RuleOf (definition_text tokens) k) is (rule_told (definition_text tokens) k d (left_out (before_next seen.state) seen.nesting x.kind) g (left_out_there tokens k seen x e h)),
         )
 
 pub first_broken : (tokens : List Token) (k : ℕ) (r : RuleId) → FirstBreak tokens k r → FirstFault tokens k r
 first_broken tokens k r (inl (g, (seen, e), f)) = (kept_front tokens k seen (omega (arith, g)) e, token_broken tokens k r seen g e f)
 first_broken tokens k r (inr (e, i, (seen, f, n))) = (
   kept_front tokens k seen (omega (arith, e)) f,
-  inr (is_refused tokens k r (subst OfGrammar (sym i) grammar_s1) (inr (e, i, (seen, f, n))), inr (i, no_token tokens k e)),
+  inr (is_refused tokens k r (subst OfGrammar (sym i) grammar_s1) (inr (e, i, (seen, f, n))), inr (i, no_token (definition_text tokens) k e)),
 )
 
-refused_token : (tokens : List Token) (k : ℕ) (r : RuleId) → FrontKept tokens k → RefusedAt tokens k → RuleOf tokens k r → FirstBreak tokens k r
+refused_token : (tokens : List Token) (k : ℕ) (r : RuleId) → FrontKept tokens k → RefusedAt tokens k → RuleOf (definition_text tokens) k r → FirstBreak tokens k r
 refused_token tokens k r front (inl (g, v, never)) rule = go (step seen.state l) refl
   where
     s : (seen : Seen) × (verdict tokens k ≡ passed seen)
@@ -166,7 +128,7 @@ refused_token tokens k r front (inl (g, v, never)) rule = go (step seen.state l)
         (ap (reading start) (one_more tokens k d g) ∙ last_step (take k (terminals_of tokens)) l seen.state (verdict_reads tokens k seen s.1) ∙ h)))
     go None h =
         let x = get_or tokens k d in
-        let is : refusal seen x ≡ r = one_rule tokens k (refusal seen x) r (rule_told tokens k seen d g (left_out_there tokens k seen x s.1 h)) rule in
+        let is : refusal seen x ≡ r = one_rule (definition_text tokens) k (refusal seen x) r (rule_told (definition_text tokens) k d (left_out (before_next seen.state) seen.nesting x.kind) g (left_out_there tokens k seen x s.1 h)) rule in
         inl (g, (seen, s.1), next_verdict tokens k seen d g s.1 ∙ ap (judged seen x l) h ∙ ap broken is)
 refused_token tokens k r front (inr (e, v, never)) rule = go (finish seen.state) refl
   where
@@ -176,14 +138,10 @@ refused_token tokens k r front (inr (e, v, never)) rule = go (finish seen.state)
     seen : Seen
     seen = s.0
 
-    last : RuleOf tokens k r → r ≡ S1
-    last (inl a) = absurd (no_token tokens k e a.1)
-    last (inr a) = a.0
-
     go : (o : Option Defs) → finish seen.state ≡ o → FirstBreak tokens k r
     go (Some ds) h =
         absurd (never (ds, subst (λ us. ParseDefs us ds) (whole_list tokens k (omega (arith, e))) (sound_defs (take k (terminals_of tokens)) seen.state ds (verdict_reads tokens k seen s.1) h)))
-    go None h = inr (e, last rule, (seen, s.1, h))
+    go None h = inr (e, rule_at_end (definition_text tokens) k r e rule, (seen, s.1, h))
 
 pub broken_first : (tokens : List Token) (k : ℕ) (r : RuleId) → FirstFault tokens k r → FirstBreak tokens k r
 broken_first tokens k r (front, inl p) =

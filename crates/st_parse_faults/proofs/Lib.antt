@@ -13,7 +13,17 @@ pub mod NumberFacts
 pub mod NumberBegins
 pub mod NumberSteps
 pub mod PositionNumberFacts
+pub mod NumberedSteps
+pub mod DefinitionNumberSteps
+pub mod PremiseNumberSteps
+pub mod PartNumberSteps
 pub mod PositionNumberSteps
+pub mod Entries
 pub mod NumberVerdicts
+pub mod FaultRules
+pub mod LeftOutBefore
+pub mod UntakenSigns
+pub mod LeftOutWords
+pub mod LeftOutSigns
 pub mod LeftOutForms
 pub mod BrokenFirst

@@ -20,7 +20,8 @@ use Rattle.st_parse_faults.specs.declared.tally.Tally.{Tally}
 use Rattle.st_parse_faults.specs.Number as number
 use Rattle.st_parse_faults.specs.Number.{Number, too_deep, too_many}
 use Rattle.st_parse_faults.specs.Numbers.{Context, in_count, ahead_number, open_entry, numbers, heading_numbers}
-use Rattle.st_parse_faults.specs.Nesting.{nesting_after, frame_bars, part_bars, may_open}
+use Rattle.st_parse_faults.specs.Nesting.{nesting_after}
+use Rattle.st_parse_faults.specs.inner.Bars.{frame_bars, part_bars, may_open}
 use Rattle.st_parse_faults.specs.Signs.{is_turnstile, posts}
 use Rattle.st_parse_faults.specs.inner.Limits.{signs_in, parts_in, aheads, tally, fresh, due_tally, held_tally, tallies_round, part_tallies, tally_passes}
 use Rattle.st_parse_faults.specs.inner.Numbering.{context_in, frame_numbers, state_numbers, frame_brackets, part_brackets}

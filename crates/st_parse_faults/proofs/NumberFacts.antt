@@ -12,7 +12,7 @@ use Rattle.st_parse_faults.specs.declared.tally.Tally.{Tally}
 use Rattle.st_parse_faults.specs.Number as number
 use Rattle.st_parse_faults.specs.Number.{Number, too_deep, too_many}
 use Rattle.st_parse_faults.specs.Numbers.{Context, opened_by, open_entry}
-use Rattle.st_parse_faults.specs.Nesting.{heading_bars, frame_bars}
+use Rattle.st_parse_faults.specs.inner.Bars.{heading_bars, frame_bars}
 use Rattle.st_parse_faults.specs.Signs.{signs, is_turnstile, posts, ends_with_label}
 use Rattle.st_parse_faults.specs.inner.Limits.{signs_in, parts_in, elements_with, aheads, tally, due_tally, held_tally, tallies_round, part_tallies, tally_passes, with_one}
 use Rattle.st_parse_faults.specs.inner.Numbering.{context_in, heading_brackets, frame_brackets}

@@ -24,7 +24,8 @@ use Rattle.st_parse_faults.specs.declared.tally.Tally.{Tally}
 use Rattle.st_parse_faults.specs.Number as number
 use Rattle.st_parse_faults.specs.Number.{Number, too_deep, too_many}
 use Rattle.st_parse_faults.specs.Numbers.{Context, context, in_bracket, post_entry, label_entry, open_entry, numbers, lead_numbers, heading_numbers, path_numbers, part_numbers, element_numbers}
-use Rattle.st_parse_faults.specs.Nesting.{nesting_after, heading_bars, frame_bars, part_bars, may_open}
+use Rattle.st_parse_faults.specs.Nesting.{nesting_after}
+use Rattle.st_parse_faults.specs.inner.Bars.{heading_bars, frame_bars, part_bars, may_open}
 use Rattle.st_parse_faults.specs.Signs.{is_in_name, unless, posts, signs}
 use Rattle.st_parse_faults.specs.inner.Limits.{signs_in, parts_in, elements_with, tally, fresh, held_tally, tallies_round, part_tallies, tally_passes, with_one}
 use Rattle.st_parse_faults.specs.inner.Numbering.{context_in, frame_numbers, state_numbers, heading_brackets, frame_brackets, part_brackets}

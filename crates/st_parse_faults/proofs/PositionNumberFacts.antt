@@ -25,7 +25,8 @@ use Rattle.st_parse_faults.specs.Number as number
 use Rattle.st_parse_faults.specs.Number.{Number, too_deep, too_many}
 use Rattle.st_parse_faults.specs.Numbers.{no_entries, open_entry, numbers}
 use Rattle.st_parse_faults.specs.DefinitionNumbers.{members_size, premises_size, defs_size, word_entry, word_numbers, body_numbers, paren_numbers, defs_numbers}
-use Rattle.st_parse_faults.specs.Nesting.{nesting_after, brackets_behind, may_open}
+use Rattle.st_parse_faults.specs.Nesting.{nesting_after, brackets_behind}
+use Rattle.st_parse_faults.specs.inner.Bars.{may_open}
 use Rattle.st_parse_faults.specs.inner.PositionNumbers.{head_numbers, ruled_numbers, slot_numbers, slot_depth, slot_begins, slot_context, position_numbers, position_brackets, counts, last_row, defs_counts, head_number, rule_counts, inner_counts, position_counts}
 use Rattle.st_parse_faults.proofs.KeptTallies.{neither}
 use Rattle.st_parse_faults.proofs.NumberFacts.{or_false, no_test, first_test, second_test, third_test, fourth_test}

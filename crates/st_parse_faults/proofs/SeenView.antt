@@ -21,6 +21,7 @@ use Rattle.st_parse_automaton.proofs.DefinitionView.{definitions_of, slot_sort_i
 use Rattle.st_parse_automaton.proofs.DefinitionSimulation.{step_is}
 use Rattle.st_parse_faults.specs.inner.LeftOut.{is_type_in, type_or_other, before_next}
 use Rattle.st_parse_faults.specs.Nesting as nest
+use Rattle.st_parse_faults.specs.inner.Bars as length_bars
 use Rattle.st_parse_faults.specs.inner.Counts as counts
 use Rattle.st_parse_faults.specs.inner.Judging as verdicts
 use Rattle.st_parse_faults.specs.inner.Folding as faults
@@ -101,7 +102,7 @@ nesting_after_is n (closing closings.ByBrace x) = refl
 nesting_after_is n (closing closings.ByBar x) = refl
 nesting_after_is n (other x) = refl
 
-pub may_open_is : (l : Terminal) → seen.may_open (shape l) ≡ nest.may_open l
+pub may_open_is : (l : Terminal) → seen.may_open (shape l) ≡ length_bars.may_open l
 may_open_is (leaf k x) = refl
 may_open_is (dot x) = refl
 may_open_is (sign m x) = refl
@@ -112,7 +113,7 @@ may_open_is (closing closings.ByBrace x) = refl
 may_open_is (closing closings.ByBar x) = refl
 may_open_is (other x) = refl
 
-pub heading_is : (h : Heading) → seen.kind_bars (kind_of h) ≡ nest.heading_bars h
+pub heading_is : (h : Heading) → seen.kind_bars (kind_of h) ≡ length_bars.heading_bars h
 heading_is (tree.plain b o) = refl
 heading_is (tree.length o) = refl
 heading_is (tree.arguments f o) = refl
@@ -121,13 +122,13 @@ heading_is (tree.segment p o) = refl
 heading_is (tree.update p m x) = refl
 heading_is (tree.below o i m x) = refl
 
-pub frame_bars_is : (fs : part.Frames) → seen.frame_bars (frames_of fs) ≡ nest.frame_bars fs
+pub frame_bars_is : (fs : part.Frames) → seen.frame_bars (frames_of fs) ≡ length_bars.frame_bars fs
 frame_bars_is (part.bottom σ) = refl
-frame_bars_is (part.within h ts pre fs) = ap (λ n. n + seen.frame_bars (frames_of fs)) (heading_is h) ∙ ap (λ n. nest.heading_bars h + n) (frame_bars_is fs)
+frame_bars_is (part.within h ts pre fs) = ap (λ n. n + seen.frame_bars (frames_of fs)) (heading_is h) ∙ ap (λ n. length_bars.heading_bars h + n) (frame_bars_is fs)
 frame_bars_is (part.over g fs) = omega (arith, frame_bars_is fs)
 frame_bars_is (part.timing t m x fs) = omega (arith, frame_bars_is fs)
 
-pub bars_is : (st : spec.State) → seen.bars (definitions_of st) ≡ nest.bars st
+pub bars_is : (st : spec.State) → seen.bars (definitions_of st) ≡ length_bars.bars st
 bars_is (spec.at p) = refl
 bars_is (spec.inside s (part.want fs)) = frame_bars_is fs
 bars_is (spec.inside s (part.got t fs)) = frame_bars_is fs
@@ -246,7 +247,7 @@ view (verdicts.broken r) = seen.broken r
 pub too_many_is : (s : faults.Seen) (l : Terminal) → seen.opens_too_many (definitions_of s.state) s.nesting (shape l) ≡ faults.opens_too_many s l
 too_many_is s l =
     ap (λ b. b && nat_lt HIGHEST_TREE (s.nesting + seen.bars (definitions_of s.state))) (may_open_is l)
-    ∙ ap (λ n. nest.may_open l && nat_lt HIGHEST_TREE (s.nesting + n)) (bars_is s.state)
+    ∙ ap (λ n. length_bars.may_open l && nat_lt HIGHEST_TREE (s.nesting + n)) (bars_is s.state)
 
 pub kept_is : (s : faults.Seen) (l : Terminal) → seen.kept (summary s) (shape l) ≡ view (faults.kept s l)
 kept_is s l = ap (λ b. seen.limited b (faults.passes_limit s) (summary s)) (too_many_is s l) ∙ go (faults.opens_too_many s l) (faults.passes_limit s)

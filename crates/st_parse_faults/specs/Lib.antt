@@ -1,6 +1,6 @@
 -- What must be believed of the faults of tokens, in reading order.
 
--- how many brackets and bars of lengths are open
+-- how many brackets are open
 pub mod Nesting
 -- the signs of a tree
 pub mod Signs
@@ -12,8 +12,10 @@ pub mod Numbers
 pub mod DefinitionNumbers
 -- the tokens that begin a form that is left out, by the tokens before them
 pub mod FormsLeftOut
--- the first token that breaks a rule, and the rule
+-- the first token of a text that breaks a rule, and the rule
 pub mod Faults
+-- that of definitions
+pub mod DefinitionFaults
 -- where a token stands in the text
 pub mod Place
 -- ---- what only proofs need

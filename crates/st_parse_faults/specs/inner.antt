@@ -3,6 +3,7 @@ pub mod LeftOut
 pub mod Limits
 pub mod Judging
 pub mod Counts
+pub mod Bars
 pub mod Folding
 pub mod Roles
 pub mod Seen

@@ -9,7 +9,7 @@ ghost use Rattle.st_grammar.specs.Terminals.{Terminal};
 ghost use Rattle.st_grammar.specs.Definitions.{Defs, ParseDefs};
 ghost use Rattle.st_parse_automaton.specs.Refusal.{AreDefinitions, RefusedAt};
 ghost use Rattle.st_parse_faults.specs.DefinitionNumbers.{defs_numbers};
-ghost use Rattle.st_parse_faults.specs.Faults.{Faultless, FirstFault};
+ghost use Rattle.st_parse_faults.specs.DefinitionFaults.{Faultless, FirstFault};
 ghost use Rattle.st_parse_faults.specs.inner.Folding.{AllPass, FirstBreak};
 
 /// Tokens have at most one first fault, and none where all of them are kept.

@@ -4,7 +4,7 @@
 //! The one idea: the parser of `st_parse_automaton` takes the tokens one after another, and what is
 //! counted of the reading is asked behind each of them.
 //!
-//! Read `reader` first, with `specs/Breaking.antt`, which tells the faults by trees. The rules are in
+//! Read `reader` first, with `specs/Faults.antt`, which tells the faults by trees. The rules are in
 //! `docs/language.md`, "Places of refusals".
 #![tactic(auto)]
 

@@ -2,7 +2,7 @@
 
 ghost use Rattle.std.specs.Prelude.{◌≡◌, IfOk, IfSome, IfNone};
 ghost use Rattle.st_grammar.specs.Terminals as terminals;
-ghost use Rattle.st_parse_faults.specs.Faults.{Faultless, FirstFault};
+ghost use Rattle.st_parse_faults.specs.DefinitionFaults.{Faultless, FirstFault};
 
 use crate::fault::TokenFault;
 use crate::judge::{TokenVerdict, judge_token, nothing_seen};

@@ -1,5 +1,5 @@
 -- A token that ends before what stands behind it is the longest at its place.
-use Rattle.std.proofs.Common.{◌≡◌, ◌≢◌, ℕ, ◌≤◌, ◌<◌, List, [], ◌∷◌, ◌++◌, length, get_or, Bool, true, false, not, refl, sym, ap, ◌∙◌, subst, cond, arith, ◌&&◌, ◌||◌, ◌==◌, ◌⊎◌, inl, inr, eqb, append_assoc}
+use Rattle.std.proofs.Common.{◌≡◌, ◌≢◌, ℕ, ◌≤◌, ◌<◌, List, [], ◌∷◌, ◌++◌, length, Bool, true, false, not, refl, sym, ap, ◌∙◌, subst, cond, arith, ◌&&◌, ◌||◌, ◌==◌, ◌⊎◌, inl, inr, eqb, append_assoc}
 use Rattle.std.proofs.lemmas.Bool.{ne_eqb, and_parts, and_from, or_parts, or_from, false≢true, cases_lt}
 use Rattle.std.proofs.lemmas.Bool.Decides.{nat_tests, Decides-eqb}
 use Rattle.std.proofs.lemmas.List.Sums.{take_while-cons}

@@ -3,8 +3,7 @@ use Rattle.std.proofs.Common.{◌≡◌, ℕ, ◌≤◌, List, [], ◌∷◌, �
 use Rattle.st_num.specs.declared.token.Token.{Token}
 use Rattle.st_grammar.specs.declared.sort.Sort.{Sort}
 use Rattle.st_grammar.specs.declared.sort.Sort.TheVariants.{Arithmetic as arithmetic}
-use Rattle.st_grammar.specs.declared.sort.Closing.TheVariants.{ByBar as by_bar}
-use Rattle.st_grammar.specs.Terminals.{Terminal, closing, terminal}
+use Rattle.st_grammar.specs.Terminals.{Terminal, terminal}
 use Rattle.st_grammar.specs.Trees.{Tree, text}
 use Rattle.st_grammar.specs.Grammar.{Fits, level}
 use Rattle.st_el.specs.declared.expression.Exp.{Exp}

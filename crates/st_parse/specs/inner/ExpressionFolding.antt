@@ -10,10 +10,11 @@ use Rattle.st_grammar.specs.Trees.{Trees}
 use Rattle.st_parse_faults.specs.declared.before.Before.TheVariants as before
 use Rattle.st_parse_faults.specs.inner.Judging.{TokenVerdict, broken, limited, verdict_on, Pass, BreaksAt}
 use Rattle.st_parse_faults.specs.inner.LeftOut.{left_out}
-use Rattle.st_parse_faults.specs.Nesting.{nesting_after, part_bars, may_open}
+use Rattle.st_parse_faults.specs.Nesting.{nesting_after}
+use Rattle.st_parse_faults.specs.inner.Bars.{part_bars, may_open}
 use Rattle.st_parse_faults.specs.inner.Limits.{tally_passes, part_tallies}
 use Rattle.st_num.specs.declared.limit.TheConstants.{HIGHEST_TREE}
-use Rattle.st_parse.specs.ExpressionReading.{State, start, step, finish}
+use Rattle.st_parse.specs.inner.ExpressionReading.{State, start, step, finish}
 
 -- what is known behind some tokens: how they are read, and how many brackets are open
 pub record Seen : Type 0 where

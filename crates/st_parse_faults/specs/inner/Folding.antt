@@ -10,7 +10,8 @@ use Rattle.st_grammar.specs.Definitions.{Defs}
 use Rattle.st_grammar.specs.Positions.{State, start, step, finish}
 use Rattle.st_parse_faults.specs.inner.Judging.{TokenVerdict, broken, limited, verdict_on, Pass, BreaksAt}
 use Rattle.st_parse_faults.specs.inner.LeftOut.{before_next, left_out}
-use Rattle.st_parse_faults.specs.Nesting.{nesting_after, bars, may_open}
+use Rattle.st_parse_faults.specs.Nesting.{nesting_after}
+use Rattle.st_parse_faults.specs.inner.Bars.{bars, may_open}
 use Rattle.st_parse_faults.specs.declared.counts.Counts.{Counts}
 use Rattle.st_parse_faults.specs.inner.Limits.{part_passes}
 use Rattle.st_parse_faults.specs.inner.Counts.{event, member_due, counts_after, counts_pass, no_counts}
