@@ -16,7 +16,7 @@ use Rattle.st_parse_builder.specs.Names.{name_of, leaf_node}
 use Rattle.st_parse_builder.specs.Meaning.{exp, place, opened, joined, prefixed, dotted, iterated, mark_count, in_parens, enclosed, changed}
 use Rattle.st_parse_builder.specs.inner.Building as pieces
 use Rattle.st_parse_builder.specs.inner.Parts.{above, kept, untold, over, raised, both_trees, both, read_tree, read_known, Makes, made_or}
-use Rattle.st_parse_builder.specs.inner.Entries.{Stack, done_in, parts_in, fields_in, path_in, label_in, place_in, top_done, top_parts, top_fields, top_path, top_label, top_place, top_pair, top_whole, starts, put, goes_on, behind, call_of, applied, alone, the_exp}
+use Rattle.st_parse_builder.specs.inner.Entries.{Stack, done_in, parts_in, fields_in, path_in, label_in, place_in, top_done, top_parts, top_fields, top_path, top_label, top_place, top_pair, top_whole, starts, goes_on, behind, call_of, applied, alone, the_exp}
 use Rattle.st_parse_builder.specs.inner.HaveTrees.{HaveTrees, TreesCome}
 use Rattle.st_parse_builder.proofs.PartLemmas.{part, by_height}
 use Rattle.st_parse_builder.proofs.Tops.{on_some}
@@ -58,8 +58,9 @@ pub no_trees : {P : Type 0} (ts : List P) → HaveTrees {P = P} [] ts → [] ≡
 no_trees [] h = refl
 no_trees (t ∷ ts) h = absurd h
 
-pub all_left : {P : Type 0} (ps qs : List (Built P)) (ts : List P) → ps ≡ qs → HaveTrees qs ts → HaveTrees ps ts
-all_left ps qs ts e h = subst (λ v. HaveTrees v ts) (sym e) h
+-- Parts that are equal to these have their trees.
+pub equal_have : {P : Type 0} (ps qs : List (Built P)) (ts : List P) → ps ≡ qs → HaveTrees qs ts → HaveTrees ps ts
+equal_have ps qs ts e h = subst (λ v. HaveTrees v ts) (sym e) h
 
 -- a part that is taken off and has a tree
 pub top_has : {A P : Type 0} (g : P → Option A) (x : Built P) (s : List (Built P)) (y : Built A × List (Built P)) (a : A) {Q : Type 0} → option_map (λ q. (q, s)) (read_tree g x.tree x.height x.from) ≡ Some y → y.0.tree ≡ Some a
@@ -103,34 +104,34 @@ is_place t at h = absurd (cc)
 
 pub done_has : (t : Stack) (x : Built Exp × Stack) (e : Exp) (s : pieces.Stack) → top_done t ≡ Some x → x.0.tree ≡ Some e → HaveTrees x.1 s → HaveTrees t (Done e ∷ s)
 done_has [] x e s h i j = absurd (cc)
-done_has (p ∷ t) x e s h i j = top_has done_in p t x e h i (λ y k l m. (k ∙ ap Some (is_done y e l), all_left t x.1 s m j))
+done_has (p ∷ t) x e s h i j = top_has done_in p t x e h i (λ y k l m. (k ∙ ap Some (is_done y e l), equal_have t x.1 s m j))
 
 parts_has : (t : Stack) (x : Built (Span × List Exp) × Stack) (a : Span × List Exp) (s : pieces.Stack) → top_parts t ≡ Some x → x.0.tree ≡ Some a → HaveTrees x.1 s → HaveTrees t (Parts a.0 a.1 ∷ s)
 parts_has [] x a s h i j = absurd (cc)
-parts_has (p ∷ t) x a s h i j = top_has parts_in p t x a h i (λ y k l m. (k ∙ ap Some (is_parts y a l), all_left t x.1 s m j))
+parts_has (p ∷ t) x a s h i j = top_has parts_in p t x a h i (λ y k l m. (k ∙ ap Some (is_parts y a l), equal_have t x.1 s m j))
 
 fields_has : (t : Stack) (x : Built (Span × List (List ℕ × Exp)) × Stack) (a : Span × List (List ℕ × Exp)) (s : pieces.Stack) → top_fields t ≡ Some x → x.0.tree ≡ Some a → HaveTrees x.1 s → HaveTrees t (Fields a.0 a.1 ∷ s)
 fields_has [] x a s h i j = absurd (cc)
-fields_has (p ∷ t) x a s h i j = top_has fields_in p t x a h i (λ y k l m. (k ∙ ap Some (is_fields y a l), all_left t x.1 s m j))
+fields_has (p ∷ t) x a s h i j = top_has fields_in p t x a h i (λ y k l m. (k ∙ ap Some (is_fields y a l), equal_have t x.1 s m j))
 
 path_has : (t : Stack) (x : Built (List Seg) × Stack) (ps : List Seg) (s : pieces.Stack) → top_path t ≡ Some x → x.0.tree ≡ Some ps → HaveTrees x.1 s → HaveTrees t (Path ps ∷ s)
 path_has [] x ps s h i j = absurd (cc)
-path_has (p ∷ t) x ps s h i j = top_has path_in p t x ps h i (λ y k l m. (k ∙ ap Some (is_path y ps l), all_left t x.1 s m j))
+path_has (p ∷ t) x ps s h i j = top_has path_in p t x ps h i (λ y k l m. (k ∙ ap Some (is_path y ps l), equal_have t x.1 s m j))
 
 label_has : (t : Stack) (x : List ℕ × Stack) (s : pieces.Stack) → top_label t ≡ Some x → HaveTrees x.1 s → HaveTrees t (Label x.0 ∷ s)
 label_has [] x s h j = absurd (cc)
-label_has (p ∷ t) x s h j = known_has label_in p t x h (λ y k l m. (k ∙ ap Some (is_label y x.0 l), all_left t x.1 s m j))
+label_has (p ∷ t) x s h j = known_has label_in p t x h (λ y k l m. (k ∙ ap Some (is_label y x.0 l), equal_have t x.1 s m j))
 
 place_has : (t : Stack) (x : Span × Stack) (s : pieces.Stack) → top_place t ≡ Some x → HaveTrees x.1 s → HaveTrees t (Here x.0 ∷ s)
 place_has [] x s h j = absurd (cc)
-place_has (p ∷ t) x s h j = known_has place_in p t x h (λ y k l m. (k ∙ ap Some (is_place y x.0 l), all_left t x.1 s m j))
+place_has (p ∷ t) x s h j = known_has place_in p t x h (λ y k l m. (k ∙ ap Some (is_place y x.0 l), equal_have t x.1 s m j))
 
 pair_has : (t : Stack) (x : Built (Exp × Exp) × Stack) (a : Exp × Exp) (s : pieces.Stack) → top_pair t ≡ Some x → x.0.tree ≡ Some a → HaveTrees x.1 s → HaveTrees t (Done a.1 ∷ Done a.0 ∷ s)
 pair_has t x a s h i j =
     on_some (top_done t) x _ h (λ r k h. on_some (top_done r.1) x _ h (λ l m h.
     let is : (both l.0 r.0, l.1) ≡ x = cc in
     let two : (l.0.tree ≡ Some a.0) × (r.0.tree ≡ Some a.1) = both_has l.0.tree r.0.tree a (ap (λ y. y.0.tree) is ∙ i) in
-    done_has t r a.1 (Done a.0 ∷ s) k two.1 (done_has r.1 l a.0 s m two.0 (all_left l.1 x.1 s (ap (λ y. y.1) is) j))))
+    done_has t r a.1 (Done a.0 ∷ s) k two.1 (done_has r.1 l a.0 s m two.0 (equal_have l.1 x.1 s (ap (λ y. y.1) is) j))))
 
 is_start : (o : Option (List Seg)) → starts o ≡ true → o ≡ Some []
 is_start (Some []) h = refl
@@ -149,33 +150,34 @@ whole_has t x e s h i j = on_some (top_path t) x _ h (λ p k h. by p (starts p.0
 -- ---- what is put
 
 -- what was put has the tree that is on top
-put_has : (p : Built Piece) (r v : Stack) (u : pieces.Stack) {Q : Type 0} → put p r ≡ Some v → HaveTrees v u → ((t : Piece) (s : pieces.Stack) → u ≡ t ∷ s → p.tree ≡ Some t → HaveTrees r s → Q) → Q
-put_has p r v u h j k = let is : p ∷ r ≡ v = cc in on_first p r u (all_left (p ∷ r) v u is j) k
+put_has : {P : Type 0} (p : Built P) (r v : List (Built P)) (u : List P) {Q : Type 0} → Some (p ∷ r) ≡ Some v → HaveTrees v u → ((t : P) (s : List P) → u ≡ t ∷ s → p.tree ≡ Some t → HaveTrees r s → Q) → Q
+put_has p r v u h j k = let is : p ∷ r ≡ v = cc in on_first p r u (equal_have (p ∷ r) v u is j) k
 
 -- what is made of a tree that is as high
-same_has : {A : Type 0} (f : A → Piece) (p : Built A) (r v : Stack) (u : pieces.Stack) {Q : Type 0} → put (over f p) r ≡ Some v → HaveTrees v u
-    → ((a : A) (s : pieces.Stack) → p.tree ≡ Some a → HaveTrees r s → f a ∷ s ≡ u → Q) → Q
+pub same_has : {A P : Type 0} (f : A → P) (p : Built A) (r v : List (Built P)) (u : List P) {Q : Type 0} → Some (over f p ∷ r) ≡ Some v → HaveTrees v u
+    → ((a : A) (s : List P) → p.tree ≡ Some a → HaveTrees r s → f a ∷ s ≡ u → Q) → Q
 same_has f p r v u h j k =
     put_has (over f p) r v u h j (λ t s i l m. on_mapped f p.tree t l (λ a n o. k a s n m (ap (λ d. d ∷ s) o ∙ sym i)))
 
 -- what is made of a tree, one higher
-higher_has : {A : Type 0} (f : A → Piece) (p : Built A) (r v : Stack) (u : pieces.Stack) {Q : Type 0} → put (over f (raised p)) r ≡ Some v → HaveTrees v u
-    → ((a : A) (s : pieces.Stack) → p.tree ≡ Some a → HaveTrees r s → f a ∷ s ≡ u → Q) → Q
+pub higher_has : {A P : Type 0} (f : A → P) (p : Built A) (r v : List (Built P)) (u : List P) {Q : Type 0} → Some (over f (raised p) ∷ r) ≡ Some v → HaveTrees v u
+    → ((a : A) (s : List P) → p.tree ≡ Some a → HaveTrees r s → f a ∷ s ≡ u → Q) → Q
 higher_has f p r v u h j k = same_has f (raised p) r v u h j (λ a s i m o. k a s (kept_has (above p.height) p.tree a i) m o)
 
-begins : (p : Built Piece) (t : Piece) (r v : Stack) (u : pieces.Stack) → p.tree ≡ Some t → put p r ≡ Some v → HaveTrees v u
-    → (s : pieces.Stack) × HaveTrees r s × (pieces.put t s ≡ Some u)
-begins p t r v u e h j = put_has p r v u h j (λ d s i l m. let is : t ≡ d = cc in (s, m, ap Some (ap (λ q. q ∷ s) is ∙ sym i)))
+-- what begins
+pub begun_has : {P : Type 0} (p : Built P) (t : P) (r v : List (Built P)) (u : List P) → p.tree ≡ Some t → Some (p ∷ r) ≡ Some v → HaveTrees v u
+    → (s : List P) × HaveTrees r s × (Some (t ∷ s) ≡ Some u)
+begun_has p t r v u e h j = put_has p r v u h j (λ d s i l m. let is : t ≡ d = cc in (s, m, ap Some (ap (λ q. q ∷ s) is ∙ sym i)))
 
 -- ---- actions
 
 pub trees_come : (seen : ℕ) (a : Action) (t v : Stack) → applied seen a t ≡ Some v → TreesCome a t v
-trees_come seen (action.Operand k x) t v h u j = begins _ (Done (exp x.at (leaf_node k x.kind))) t v u refl h j
-trees_come seen (action.Label x) t v h u j = begins _ (Label (name_of x.kind)) t v u refl h j
-trees_come seen (action.Here b) t v h u j = begins _ (Here b) t v u refl h j
-trees_come seen (action.Open b) t v h u j = begins _ (Parts b []) t v u refl h j
-trees_come seen (action.OpenFields b) t v h u j = begins _ (Fields b []) t v u refl h j
-trees_come seen action.OpenPath t v h u j = begins _ (Path []) t v u refl h j
+trees_come seen (action.Operand k x) t v h u j = begun_has _ (Done (exp x.at (leaf_node k x.kind))) t v u refl h j
+trees_come seen (action.Label x) t v h u j = begun_has _ (Label (name_of x.kind)) t v u refl h j
+trees_come seen (action.Here b) t v h u j = begun_has _ (Here b) t v u refl h j
+trees_come seen (action.Open b) t v h u j = begun_has _ (Parts b []) t v u refl h j
+trees_come seen (action.OpenFields b) t v h u j = begun_has _ (Fields b []) t v u refl h j
+trees_come seen action.OpenPath t v h u j = begun_has _ (Path []) t v u refl h j
 trees_come seen (action.Dot x) t v h u j = on_some (top_done t) v _ h (λ p i h.
     same_has (λ e. Done (dotted e x)) (behind x p.0) p.1 v u h j (λ e s k l o.
     (Done e ∷ s, done_has t p e s i (either_has (goes_on x p.0.tree) p.0 e k) l, ap Some o)))
@@ -256,8 +258,8 @@ trees_come seen (action.Change m) t v h u j = on_some (top_done t) v _ h (λ p i
 -- what is made goes on the stack, and else a part without a tree
 pub trees_made : {P : Type 0} (o : Option (List (Built P))) (rest new : List (Built P)) (made : Option (Built P)) (from : ℕ) (u : List P) {Q : Type 0} → Makes o rest made → new ≡ made_or made (untold from) ∷ rest → HaveTrees new u
     → ((v : List (Built P)) → o ≡ Some v → HaveTrees v u → Q) → Q
-trees_made o rest new None from u m e j k = on_first (untold from) rest u (all_left (untold from ∷ rest) new u (sym e) j) (λ t s i none r. absurd (cc))
-trees_made o rest new (Some p) from u m e j k = k (p ∷ rest) m (all_left (p ∷ rest) new u (sym e) j)
+trees_made o rest new None from u m e j k = on_first (untold from) rest u (equal_have (untold from ∷ rest) new u (sym e) j) (λ t s i none r. absurd (cc))
+trees_made o rest new (Some p) from u m e j k = k (p ∷ rest) m (equal_have (p ∷ rest) new u (sym e) j)
 
 -- where something else would be built, or nothing, there is no tree
 pub no_tree : {A : Type 0} (tree built : Option A) → ((a : A) → tree ≡ Some a → built ≡ Some a) → built ≡ None → tree ≡ None
@@ -275,5 +277,5 @@ exp_has s p e from h i = by (the_exp s) refl h
         lone : (t : Built Exp × Stack) → top_done s ≡ Some t → (r : Stack) → t.1 ≡ r → alone t.0 r ≡ Some q → HaveTrees s (Done e ∷ [])
         lone t k [] is l =
             let same : t.0 ≡ q = cc in
-            done_has s t e [] k (ap (λ d. d.tree) same ∙ sym (ap (λ d. d.tree) h) ∙ i) (all_left t.1 [] [] is tt)
+            done_has s t e [] k (ap (λ d. d.tree) same ∙ sym (ap (λ d. d.tree) h) ∙ i) (equal_have t.1 [] [] is tt)
         lone t k (x ∷ r) is l = absurd (cc)

@@ -15,12 +15,12 @@ use Rattle.st_parse_builder.specs.Notations.{marked, typ_in_parens, notation_at,
 use Rattle.st_parse_builder.specs.inner.NotationBuilding as pieces
 use Rattle.st_parse_builder.specs.inner.NotationBuilding.{operand_piece}
 use Rattle.st_parse_builder.specs.inner.Parts.{above, kept, untold, over, raised, both, read_tree, made_or}
-use Rattle.st_parse_builder.specs.inner.NotationEntries.{Stack, type_in, whole_in, types_in, elements_in, place_in, as_notation, top_notation, top_type, top_whole, top_types, top_elements, top_place, put, more_types, more_elements, part_behind, put_part, is_one, enclosed_types, applied, the_part, typ_in, open_notation, notation_in}
+use Rattle.st_parse_builder.specs.inner.NotationEntries.{Stack, type_in, whole_in, types_in, elements_in, place_in, as_notation, top_notation, top_type, top_whole, top_types, top_elements, top_place, more_types, more_elements, part_behind, put_part, is_one, enclosed_types, applied, the_part, typ_in, open_notation, notation_in}
 use Rattle.st_parse_builder.specs.inner.HaveTrees.{HaveTrees, NotationTreesCome}
 use Rattle.st_parse_builder.proofs.PartLemmas.{part}
 use Rattle.st_parse_builder.proofs.Tops.{on_some}
 use Rattle.st_parse_builder.proofs.NotationTops.{reads}
-use Rattle.st_parse_builder.proofs.HaveTrees.{kept_has, both_has, either_has, on_mapped, read_has, on_first, all_left, top_has, known_has}
+use Rattle.st_parse_builder.proofs.HaveTrees.{kept_has, both_has, either_has, on_mapped, read_has, on_first, equal_have, top_has, known_has, same_has, higher_has, begun_has}
 
 -- ---- parts on a stack
 
@@ -46,23 +46,23 @@ is_place t at h = absurd (cc)
 
 type_has : (t : Stack) (x : Built (Span × Typ) × Stack) (a : Span × Typ) (s : pieces.Stack) → top_type t ≡ Some x → x.0.tree ≡ Some a → HaveTrees x.1 s → HaveTrees t (a_type a.0 a.1 ∷ s)
 type_has [] x a s h i j = absurd (cc)
-type_has (p ∷ t) x a s h i j = top_has type_in p t x a h i (λ y k l m. (k ∙ ap Some (is_type y a l), all_left t x.1 s m j))
+type_has (p ∷ t) x a s h i j = top_has type_in p t x a h i (λ y k l m. (k ∙ ap Some (is_type y a l), equal_have t x.1 s m j))
 
 whole_has : (t : Stack) (x : Built Notation × Stack) (n : Notation) (s : pieces.Stack) → top_whole t ≡ Some x → x.0.tree ≡ Some n → HaveTrees x.1 s → HaveTrees t (whole n ∷ s)
 whole_has [] x n s h i j = absurd (cc)
-whole_has (p ∷ t) x n s h i j = top_has whole_in p t x n h i (λ y k l m. (k ∙ ap Some (is_whole y n l), all_left t x.1 s m j))
+whole_has (p ∷ t) x n s h i j = top_has whole_in p t x n h i (λ y k l m. (k ∙ ap Some (is_whole y n l), equal_have t x.1 s m j))
 
 types_has : (t : Stack) (x : Built (Span × List Typ) × Stack) (a : Span × List Typ) (s : pieces.Stack) → top_types t ≡ Some x → x.0.tree ≡ Some a → HaveTrees x.1 s → HaveTrees t (types a.0 a.1 ∷ s)
 types_has [] x a s h i j = absurd (cc)
-types_has (p ∷ t) x a s h i j = top_has types_in p t x a h i (λ y k l m. (k ∙ ap Some (is_types y a l), all_left t x.1 s m j))
+types_has (p ∷ t) x a s h i j = top_has types_in p t x a h i (λ y k l m. (k ∙ ap Some (is_types y a l), equal_have t x.1 s m j))
 
 elements_has : (t : Stack) (x : Built (Span × List Notation) × Stack) (a : Span × List Notation) (s : pieces.Stack) → top_elements t ≡ Some x → x.0.tree ≡ Some a → HaveTrees x.1 s → HaveTrees t (elements a.0 a.1 ∷ s)
 elements_has [] x a s h i j = absurd (cc)
-elements_has (p ∷ t) x a s h i j = top_has elements_in p t x a h i (λ y k l m. (k ∙ ap Some (is_elements y a l), all_left t x.1 s m j))
+elements_has (p ∷ t) x a s h i j = top_has elements_in p t x a h i (λ y k l m. (k ∙ ap Some (is_elements y a l), equal_have t x.1 s m j))
 
 place_has : (t : Stack) (x : Span × Stack) (s : pieces.Stack) → top_place t ≡ Some x → HaveTrees x.1 s → HaveTrees t (from_place x.0 ∷ s)
 place_has [] x s h j = absurd (cc)
-place_has (p ∷ t) x s h j = known_has place_in p t x h (λ y k l m. (k ∙ ap Some (is_place y x.0 l), all_left t x.1 s m j))
+place_has (p ∷ t) x s h j = known_has place_in p t x h (λ y k l m. (k ∙ ap Some (is_place y x.0 l), equal_have t x.1 s m j))
 
 -- a part that is read as a notation, and has a tree
 read_notation_has : (p : Built NotationPiece) (q : Built Notation) (n : Notation) {Q : Type 0} → as_notation p.tree p.height p.from ≡ Some q → q.tree ≡ Some n
@@ -89,31 +89,13 @@ on_notation : (t : Stack) (x : Built Notation × Stack) (n : Notation) (s : piec
 on_notation [] x n s h i j k = absurd (cc)
 on_notation (p ∷ t) x n s h i j k =
     on_mapped (λ q. (q, t)) (as_notation p.tree p.height p.from) x h
-    (λ q l m. read_notation_has p q n l (ap (λ z. z.0.tree) m ∙ i) (λ y c d. k y d (c, all_left t x.1 s (ap (λ z. z.1) m) j)))
+    (λ q l m. read_notation_has p q n l (ap (λ z. z.0.tree) m ∙ i) (λ y c d. k y d (c, equal_have t x.1 s (ap (λ z. z.1) m) j)))
 
 -- what is on top is read as a notation
 reads_top : (y : NotationPiece) (n : Notation) (s : pieces.Stack) → reads y ≡ Some n → pieces.top_notation (y ∷ s) ≡ Some (n, s)
 reads_top (a_type at t) n s h = let is : hole at t ≡ n = cc in ap (λ m. Some (m, s)) is
 reads_top (whole m) n s h = let is : m ≡ n = cc in ap (λ m. Some (m, s)) is
 reads_top y n s h = absurd (cc)
-
--- ---- what is put
-
-put_has : (p : Built NotationPiece) (r v : Stack) (u : pieces.Stack) {Q : Type 0} → put p r ≡ Some v → HaveTrees v u → ((t : NotationPiece) (s : pieces.Stack) → u ≡ t ∷ s → p.tree ≡ Some t → HaveTrees r s → Q) → Q
-put_has p r v u h j k = let is : p ∷ r ≡ v = cc in on_first p r u (all_left (p ∷ r) v u is j) k
-
-same_has : {A : Type 0} (f : A → NotationPiece) (p : Built A) (r v : Stack) (u : pieces.Stack) {Q : Type 0} → put (over f p) r ≡ Some v → HaveTrees v u
-    → ((a : A) (s : pieces.Stack) → p.tree ≡ Some a → HaveTrees r s → f a ∷ s ≡ u → Q) → Q
-same_has f p r v u h j k =
-    put_has (over f p) r v u h j (λ t s i l m. on_mapped f p.tree t l (λ a n o. k a s n m (ap (λ d. d ∷ s) o ∙ sym i)))
-
-higher_has : {A : Type 0} (f : A → NotationPiece) (p : Built A) (r v : Stack) (u : pieces.Stack) {Q : Type 0} → put (over f (raised p)) r ≡ Some v → HaveTrees v u
-    → ((a : A) (s : pieces.Stack) → p.tree ≡ Some a → HaveTrees r s → f a ∷ s ≡ u → Q) → Q
-higher_has f p r v u h j k = same_has f (raised p) r v u h j (λ a s i m o. k a s (kept_has (above p.height) p.tree a i) m o)
-
-begins : (p : Built NotationPiece) (t : NotationPiece) (r v : Stack) (u : pieces.Stack) → p.tree ≡ Some t → put p r ≡ Some v → HaveTrees v u
-    → (s : pieces.Stack) × HaveTrees r s × (pieces.put t s ≡ Some u)
-begins p t r v u e h j = put_has p r v u h j (λ d s i l m. let is : t ≡ d = cc in (s, m, ap Some (ap (λ q. q ∷ s) is ∙ sym i)))
 
 -- ---- one more part
 
@@ -168,7 +150,7 @@ part_comes (p ∷ q ∷ r) v u h j = by q.tree refl h
     by : (o : Option NotationPiece) → q.tree ≡ o → option_map (λ d. d ∷ r) (part_behind o q p) ≡ Some v → ComeOf action.Part (p ∷ q ∷ r) u
     by None e h =
         let is : untold 0 ∷ r ≡ v = cc in
-        on_first (untold 0) r u (all_left (untold 0 ∷ r) v u is j) (λ t s i none o. absurd (cc))
+        on_first (untold 0) r u (equal_have (untold 0 ∷ r) v u is j) (λ t s i none o. absurd (cc))
     by (Some (types c ts)) e h = type_behind_comes p q c ts r v u e h j
     by (Some (elements c ns)) e h = element_behind_comes p q c ns r v u e h j
     by (Some t) e h = absurd (cc)
@@ -176,9 +158,9 @@ part_comes (p ∷ q ∷ r) v u h j = by q.tree refl h
 -- ---- actions
 
 pub notation_trees_come : (a : Action) (t v : Stack) → applied a t ≡ Some v → NotationTreesCome a t v
-notation_trees_come (action.Operand k x) t v h u j = begins _ (operand_piece k x) t v u refl h j
-notation_trees_come (action.Here b) t v h u j = begins _ (from_place b) t v u refl h j
-notation_trees_come (action.Open b) t v h u j = begins _ (types b []) t v u refl h j
+notation_trees_come (action.Operand k x) t v h u j = begun_has _ (operand_piece k x) t v u refl h j
+notation_trees_come (action.Here b) t v h u j = begun_has _ (from_place b) t v u refl h j
+notation_trees_come (action.Open b) t v h u j = begun_has _ (types b []) t v u refl h j
 notation_trees_come (action.Dot x) t v h u j = on_some (top_whole t) v _ h (λ p i h.
     same_has (λ n. whole (atom_on n x)) p.0 p.1 v u h j (λ n s k l o.
     (whole n ∷ s, whole_has t p n s i k l, ap Some o)))
