@@ -15,4 +15,6 @@ mod Simulated
 mod NotationTops
 mod NotationSimulated
 mod NotationGiven
+mod HaveTrees
+mod NotationHaveTrees
 mod Steps

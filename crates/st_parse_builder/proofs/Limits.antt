@@ -1,18 +1,21 @@
 -- First occurrences, and what is known of the names so far.
-use Rattle.std.proofs.Common.{◌≡◌, ℕ, ◌+◌, ◌≤◌, ◌<◌, List, [], ◌∷◌, ◌++◌, length, filter, map, drop, take, get_or, Bool, true, false, not, ◌||◌, ◌&&◌, refl, sym, ap, subst, ◌∙◌, append-nil, append_assoc, arith, if◌then◌else◌, Some, None, zero, suc}
+use Rattle.std.proofs.Common.{◌≡◌, ℕ, ◌+◌, ◌≤◌, ◌<◌, List, [], ◌∷◌, ◌++◌, length, filter, map, drop, take, get_or, Bool, true, false, not, ◌||◌, ◌&&◌, refl, sym, ap, subst, ◌∙◌, append-nil, append_assoc, arith, eqb, if◌then◌else◌, Some, None, zero, suc}
 use Rattle.std.specs.Prelude.{slice_get}
+use Rattle.std.specs.Borrow.{Bor}
+use Rattle.std.specs.Cmp.Lexicographic.{pointwise}
 use Rattle.std.specs.List.{list_any}
 use Rattle.std.proofs.lemmas.Grind.{common_steps}
-use Rattle.std.proofs.lemmas.List.{map-append}
+use Rattle.std.proofs.lemmas.List.{map-append, length-map}
 use Rattle.std.proofs.lemmas.List.Elements.{filter-append}
 use Rattle.std.proofs.lemmas.List.Folds.{list_any-append}
 use Rattle.std.proofs.lemmas.Slice.Eq.{bytes_eq-Decides}
+use Rattle.indexmap.specs.IndexSet.{insert_key}
 use Rattle.st_num.specs.declared.span.Span.{Span}
 use Rattle.st_num.specs.declared.token.Token.{Token}
 use Rattle.st_num.specs.Names.{same_name}
 use Rattle.st_parse_builder.specs.Variables.{Occurrence, occurrence, occurrences}
 use Rattle.st_parse_builder.specs.Limits.{first_of_each, place_past}
-use Rattle.st_parse_builder.specs.inner.Counting.{Knows}
+use Rattle.st_parse_builder.specs.inner.Counting.{spelled, Knows}
 use Rattle.st_parse_builder.proofs.Lists.{next_taken, cut}
 
 abbrev differs : Occurrence → Occurrence → Bool
@@ -81,7 +84,7 @@ or-absorbs false true h = h refl
 or-absorbs false false h = refl
 
 -- a name that is known already
-pub knows_again : (limit : ℕ) (before : List Occurrence) (names : List (List ℕ)) (o : Occurrence)
+knows_again : (limit : ℕ) (before : List Occurrence) (names : List (List ℕ)) (o : Occurrence)
     → list_any (λ known. same_name o.0 known) names ≡ true
     → Knows limit before names → Knows limit (before ++ o ∷ []) names
 knows_again limit before names o known k = record {
@@ -101,8 +104,11 @@ knows_again limit before names o known k = record {
         ∙ ap (λ b. first_of_each before ++ (if not b then o ∷ [] else [])) seen
         ∙ append-nil (first_of_each before)
 
+longer : {A : Type 0} (xs : List A) (x : A) → length (xs ++ x ∷ []) ≡ length xs + 1
+longer xs x = grind (arith, common_steps)
+
 -- a name that is new
-pub knows_more : (limit : ℕ) (before : List Occurrence) (names : List (List ℕ)) (o : Occurrence)
+knows_more : (limit : ℕ) (before : List Occurrence) (names : List (List ℕ)) (o : Occurrence)
     → list_any (λ known. same_name o.0 known) names ≡ false → length names + 1 ≤ limit
     → Knows limit before names → Knows limit (before ++ o ∷ []) (names ++ o.0 ∷ [])
 knows_more limit before names o new room k = record {
@@ -121,9 +127,6 @@ knows_more limit before names o new room k = record {
     firsts = first-append before (o ∷ [])
         ∙ ap (λ b. first_of_each before ++ (if not b then o ∷ [] else [])) unseen
 
-    longer : {A : Type 0} (xs : List A) (x : A) → length (xs ++ x ∷ []) ≡ length xs + 1
-    longer xs x = grind (arith, common_steps)
-
 abbrev place : Occurrence → Span
 place o = o.1
 
@@ -133,7 +136,7 @@ place_there [] o ys = refl
 place_there (x ∷ xs) o ys = place_there xs o ys
 
 -- a new name where as many are known already
-pub past_known : (limit : ℕ) (before behind : List Occurrence) (names : List (List ℕ)) (o : Occurrence)
+past_known : (limit : ℕ) (before behind : List Occurrence) (names : List (List ℕ)) (o : Occurrence)
     → list_any (λ known. same_name o.0 known) names ≡ false → limit ≤ length names
     → Knows limit before names
     → place_past limit ((before ++ o ∷ []) ++ behind) ≡ Some o.1
@@ -156,6 +159,59 @@ past_known limit before behind names o new full k =
     firsts = first-append before (o ∷ behind)
         ∙ ap (λ b. first_of_each before ++ (if not b then o ∷ rest else rest)) unseen
 
+-- ---- a name that is taken down
+
+any-map : {A B : Type 0} (f : A → B) (test : B → Bool) (xs : List A) → list_any (λ x. test (f x)) xs ≡ list_any test (map f xs)
+any-map f test [] = refl
+any-map f test (x ∷ xs) = ap (λ b. test (f x) || b) (any-map f test xs)
+
+-- these names with one more, where it is new
+abbrev with_name : List (List ℕ) → List ℕ → List (List ℕ)
+with_name names name = if list_any (λ known. same_name name known) names then names else names ++ name ∷ []
+
+-- what `insert` leaves of the names
+pub spelled_insert : (keys new : List (Bor (List ℕ))) (key : Bor (List ℕ)) (name : List ℕ) → new ≡ insert_key (λ x y. pointwise eqb x.now y.now) keys key
+    → key.now ≡ name → spelled new ≡ with_name (spelled keys) name
+spelled_insert keys new key name n same = ap spelled n ∙ by (list_any (λ x. same_name key.now x.now) keys) refl ∙ ap (with_name (spelled keys)) same
+  where
+    by : (b : Bool) → list_any (λ (x : Bor (List ℕ)). same_name key.now x.now) keys ≡ b
+        → spelled (insert_key (λ x y. pointwise eqb x.now y.now) keys key) ≡ with_name (spelled keys) key.now
+    by true e =
+        ap (λ c. spelled (if c then keys else keys ++ key ∷ [])) e
+        ∙ ap (λ c. if c then spelled keys else spelled keys ++ key.now ∷ []) (sym (sym (any-map (λ (x : Bor (List ℕ)). x.now) (λ known. same_name key.now known) keys) ∙ e))
+    by false e =
+        ap (λ c. spelled (if c then keys else keys ++ key ∷ [])) e
+        ∙ map-append (λ (x : Bor (List ℕ)). x.now) keys (key ∷ [])
+        ∙ ap (λ c. if c then spelled keys else spelled keys ++ key.now ∷ []) (sym (sym (any-map (λ (x : Bor (List ℕ)). x.now) (λ known. same_name key.now known) keys) ∙ e))
+
+-- with it there are no more names than the limit allows
+pub knows_next : (limit : ℕ) (before : List Occurrence) (names new : List (List ℕ)) (o : Occurrence)
+    → new ≡ with_name names o.0 → length new ≤ limit
+    → Knows limit before names → Knows limit (before ++ o ∷ []) new
+knows_next limit before names new o n fits k = by (list_any (λ known. same_name o.0 known) names) refl
+  where
+    is : (b : Bool) → list_any (λ known. same_name o.0 known) names ≡ b → new ≡ (if b then names else names ++ o.0 ∷ [])
+    is b e = n ∙ ap (λ c. if c then names else names ++ o.0 ∷ []) e
+
+    by : (b : Bool) → list_any (λ known. same_name o.0 known) names ≡ b → Knows limit (before ++ o ∷ []) new
+    by true e = subst (Knows limit (before ++ o ∷ [])) (sym (is true e)) (knows_again limit before names o e k)
+    by false e =
+        subst (Knows limit (before ++ o ∷ [])) (sym (is false e))
+        (knows_more limit before names o e (subst (λ m. m ≤ limit) (ap length (is false e) ∙ longer names o.0) fits) k)
+
+-- with it there are more
+pub next_past : (limit : ℕ) (before behind : List Occurrence) (names new : List (List ℕ)) (o : Occurrence)
+    → new ≡ with_name names o.0 → limit < length new
+    → Knows limit before names → place_past limit ((before ++ o ∷ []) ++ behind) ≡ Some o.1
+next_past limit before behind names new o n full k = by (list_any (λ known. same_name o.0 known) names) refl
+  where
+    is : (b : Bool) → list_any (λ known. same_name o.0 known) names ≡ b → limit < length (if b then names else names ++ o.0 ∷ [])
+    is b e = subst (λ ns. limit < length ns) (n ∙ ap (λ c. if c then names else names ++ o.0 ∷ []) e) full
+
+    by : (b : Bool) → list_any (λ known. same_name o.0 known) names ≡ b → place_past limit ((before ++ o ∷ []) ++ behind) ≡ Some o.1
+    by true e = absurd (omega (arith, is true e, k.within))
+    by false e = past_known limit before behind names o e (omega (arith, is false e, longer names o.0)) k
+
 -- ---- all occurrences
 
 -- nothing stands past the end
@@ -168,6 +224,24 @@ past_end (x ∷ xs) (suc n) h = past_end xs n (omega (arith, h))
 pub none_past : (limit : ℕ) (seen : List Occurrence) (names : List (List ℕ))
     → Knows limit seen names → place_past limit seen ≡ None
 none_past limit seen names k = past_end (first_of_each seen) limit (omega (arith, k.counted, k.within))
+
+fewer-filter : {A : Type 0} (p : A → Bool) (xs : List A) → length (filter p xs) ≤ length xs
+fewer-filter p [] = omega arith
+fewer-filter p (x ∷ xs) = by (p x) (fewer-filter p xs)
+  where
+    by : (b : Bool) → length (filter p xs) ≤ length xs → length (if b then x ∷ filter p xs else filter p xs) ≤ length (x ∷ xs)
+    by true fewer = omega (arith, fewer)
+    by false fewer = omega (arith, fewer)
+
+fewer_firsts : (os : List Occurrence) → length (first_of_each os) ≤ length os
+fewer_firsts [] = omega arith
+fewer_firsts (o ∷ os) = omega (arith, fewer-filter (differs o) (first_of_each os), fewer_firsts os)
+
+-- so few occurrences have no more names than the limit allows
+pub few_past : (limit : ℕ) (tokens : List Token) → length tokens ≤ limit → place_past limit (occurrences tokens) ≡ None
+few_past limit tokens h =
+    past_end (first_of_each (occurrences tokens)) limit
+    (omega (arith, h, fewer_firsts (occurrences tokens), length-map tokens occurrence))
 
 -- the occurrences of some tokens, of the next one, and of those behind it
 pub next_seen : (tokens : List Token) (i : ℕ) (x : Token) → i < length tokens → x ≡ get_or tokens i x

@@ -21,10 +21,10 @@ use Rattle.st_parse_builder.specs.Notations.{marked, typ_in_parens, notation_at,
 use Rattle.st_parse_builder.specs.Heights.{typ_height, notation_height}
 use Rattle.st_parse_builder.specs.inner.PieceHeights.{typ_in, lone_typ, height_or, open_height}
 use Rattle.st_parse_builder.specs.inner.NotationBuilding as pieces
-use Rattle.st_parse_builder.specs.inner.Parts.{capped, kept, built, over, Gives}
+use Rattle.st_parse_builder.specs.inner.Parts.{capped, kept, built, untold, over, made_or}
 use Rattle.st_parse_builder.specs.inner.NotationEntries as spec
 use Rattle.st_parse_builder.specs.inner.NotationEntries.{Stack, entries, type_in, the_part, open_notation, notation_in, typ_part, notation_part}
-use Rattle.st_parse_builder.proofs.PartLemmas.{part, over_built, read_built, by_tree, open_part, shut_part, whole_part, none_part}
+use Rattle.st_parse_builder.proofs.PartLemmas.{part, given, over_built, read_built, by_tree, open_part, shut_part, whole_part, none_part}
 use Rattle.st_parse_builder.proofs.Tops.{on_some}
 use Rattle.st_parse_builder.proofs.NotationTops.{on_notation, on_type, on_whole, on_place, on_part}
 use Rattle.st_parse_builder.proofs.NotationTallness.{tall_hole}
@@ -92,11 +92,11 @@ told_all (a ∷ later) s u all h = on_some (pieces.applied a s) u (pieces.run la
 -- ---- what is alone
 
 pub typ_given : (s : pieces.Stack) (t : Typ) (stack : Stack) (p : Built NotationPiece) (q : Built Typ) → pieces.the_typ s ≡ Some t → stack ≡ entries s
-    → Gives (the_part stack) p → Gives (spec.typ_in p) q → q ≡ typ_part t
+    → p ≡ made_or (the_part stack) (untold 0) → q ≡ made_or (spec.typ_in p) (untold 0) → q ≡ typ_part t
 typ_given (a_type b t ∷ []) w stack p q h e f g =
     let is : t ≡ w = cc in
-    let one : p ≡ built 0 (typ_height t) (a_type b t) = f (built 0 (typ_height t) (a_type b t)) (ap the_part e) in
-    g (typ_part w)
+    let one : p ≡ built 0 (typ_height t) (a_type b t) = given (untold 0) f (ap the_part e) in
+    given (untold 0) g
     (ap spec.typ_in one
     ∙ ap (option_map (over (λ x. x.1))) (read_built type_in 0 (typ_height t) (a_type b t) (b, t) refl)
     ∙ ap Some (over_built (λ (x : Span × Typ). x.1) 0 (typ_height t) (b, t))
@@ -140,13 +140,13 @@ whole_given n single =
     told = ap (λ m. Some (part 0 (kept m (Some n)) (capped (notation_height n)))) (sym (ap (height_or (notation_height n)) single))
 
 pub notation_given : (s : pieces.Stack) (n : Notation) (stack : Stack) (p : Built NotationPiece) (q : Built Notation) → AreTold s → pieces.the_notation s ≡ Some n → stack ≡ entries s
-    → Gives (the_part stack) p → Gives (notation_in p) q → q ≡ notation_part n
+    → p ≡ made_or (the_part stack) (untold 0) → q ≡ made_or (notation_in p) (untold 0) → q ≡ notation_part n
 notation_given (a_type b t ∷ []) n stack p q all h e f g =
     let is : hole b t ≡ n = cc in
-    let one : p ≡ built 0 (typ_height t) (a_type b t) = f (built 0 (typ_height t) (a_type b t)) (ap the_part e) in
-    g (notation_part n) (ap notation_in one ∙ hole_given b t ∙ ap (λ m. Some (notation_part m)) is)
+    let one : p ≡ built 0 (typ_height t) (a_type b t) = given (untold 0) f (ap the_part e) in
+    given (untold 0) g (ap notation_in one ∙ hole_given b t ∙ ap (λ m. Some (notation_part m)) is)
 notation_given (whole m ∷ []) n stack p q all h e f g =
     let is : m ≡ n = cc in
-    let one : p ≡ built 0 (notation_height m) (whole m) = f (built 0 (notation_height m) (whole m)) (ap the_part e) in
-    g (notation_part n) (ap notation_in one ∙ whole_given m all.0 ∙ ap (λ m. Some (notation_part m)) is)
+    let one : p ≡ built 0 (notation_height m) (whole m) = given (untold 0) f (ap the_part e) in
+    given (untold 0) g (ap notation_in one ∙ whole_given m all.0 ∙ ap (λ m. Some (notation_part m)) is)
 notation_given s n stack p q all h e f g = absurd (cc)

@@ -3,7 +3,7 @@ use Rattle.std.proofs.Common.{arith, ◌≡◌, ℕ, ◌+◌, ◌≤◌, ◌<◌
 use Rattle.std.specs.Prelude.{nat_le}
 use Rattle.std.specs.Option.{option_map}
 use Rattle.st_parse_builder.specs.declared.built.Built.{Built}
-use Rattle.st_parse_builder.specs.inner.Parts.{capped, above, kept, built, over, raised, both_trees, both, read_tree, read_known}
+use Rattle.st_parse_builder.specs.inner.Parts.{capped, above, kept, built, over, raised, both_trees, both, read_tree, read_known, made_or}
 
 -- ---- heights
 
@@ -179,3 +179,8 @@ none_part from n b a h = ap (λ t. part from t (capped n)) (kept_high n (Some a)
 pub tree_kept : {A : Type 0} (from n : ℕ) (a : A) → (built from n a).tree ≡ kept n (Some a)
 unfolding built
 tree_kept from n a = refl
+
+-- ---- what is made, and else another part
+
+pub given : {A : Type 0} {o : Option A} (other : A) {made a : A} → made ≡ made_or o other → o ≡ Some a → made ≡ a
+given other h e = h ∙ ap (λ p. made_or p other) e

@@ -1,5 +1,5 @@
 -- Building one action after another.
-use Rattle.std.proofs.Common.{arith, ◌≡◌, ℕ, List, [], ◌∷◌, ◌++◌, length, Option, Some, None, OnSome, option_and_then, reverse, refl, sym, ap, ◌∙◌, length-append}
+use Rattle.std.proofs.Common.{arith, ◌≡◌, ℕ, List, [], ◌∷◌, ◌++◌, length, Option, Some, None, OnSome, option_and_then, reverse, refl, sym, ap, subst, ◌∙◌, length-append, append-nil}
 use Rattle.std.proofs.lemmas.List.{length-map, length-reverse}
 use Rattle.st_num.specs.declared.token.Token.{Token}
 use Rattle.st_el.specs.declared.expression.Exp.{Exp}
@@ -16,11 +16,19 @@ use Rattle.st_parse_builder.specs.Variables.{Occurrence, occurrence, occurrences
 use Rattle.st_parse_builder.specs.inner.Building as exps
 use Rattle.st_parse_builder.specs.inner.NotationBuilding as notations
 use Rattle.st_parse_builder.specs.inner.PieceVariables.{stack_variables}
-use Rattle.st_parse_builder.specs.inner.Parts.{built, over, raised, both, Makes, made_or}
+use Rattle.st_parse_builder.specs.inner.Parts.{built, untold, over, raised, both, Makes, made_or}
 use Rattle.st_parse_builder.specs.inner.Entries as entry
-use Rattle.st_parse_builder.specs.inner.Entries.{entries, noted, alone, the_exp, exp_part}
+use Rattle.st_parse_builder.specs.inner.Entries.{entries, noted, Stands, alone, the_exp, exp_part}
+use Rattle.st_parse_builder.specs.inner.NotationEntries.{entries as notation_entries}
 use Rattle.st_parse_builder.proofs.Tops.{on_some}
 use Rattle.st_parse_builder.proofs.OnTop.{at, done_on}
+
+-- nothing stands on the stack before the first action
+pub stands_first : (seen : List Token) (s : exps.Stack) → Some [] ≡ Some s → Stands (occurrences seen) s [] seen
+stands_first seen s h = let is : [] ≡ s = cc in subst (λ v. Stands (occurrences seen) v [] seen) is (refl, sym (append-nil (occurrences seen)))
+
+pub notations_first : (s : notations.Stack) → Some [] ≡ Some s → [] ≡ notation_entries s
+notations_first s h = let is : [] ≡ s = cc in ap notation_entries is
 
 -- the stacks before and behind one action among others
 pub run_at : (front : List Action) (a : Action) (back : List Action) (s u : exps.Stack) {P : Type 0} → exps.run (front ++ a ∷ back) s ≡ Some u
@@ -63,13 +71,23 @@ none_left : {P : Type 0} (r : List P) → reverse r ≡ [] → r ≡ []
 none_left [] h = refl
 none_left (x ∷ xs) h = let n : length (reverse (x ∷ xs)) ≡ 0 = ap length h in absurd (omega (arith, n, length-reverse (x ∷ xs)))
 
+-- where no expression is on top
+pub exp_wanting : (s : entry.Stack) (from : ℕ) → entry.top_done s ≡ None → untold from ≡ made_or (the_exp s) (untold from)
+exp_wanting s from h = sym (ap (λ o. made_or (option_and_then (λ u. alone u.0 u.1) o) (untold from)) h)
+
 -- a part on others is no expression alone
-pub more_than_one : (s r : entry.Stack) (t a : Built Exp) → entry.top_done s ≡ Some (t, reverse r) → (r ≡ [] → ⊥) → the_exp s ≡ Some a → ⊥
-more_than_one s r t a e k h = go (reverse r) refl (sym (ap (option_and_then (λ u. alone u.0 u.1)) e) ∙ h)
+pub exp_with_more : (s r : entry.Stack) (t : Built Exp) (from : ℕ) → entry.top_done s ≡ Some (t, reverse r) → (r ≡ [] → ⊥) → untold from ≡ made_or (the_exp s) (untold from)
+exp_with_more s r t from e k = by (reverse r) refl ∙ sym (ap (λ o. made_or (option_and_then (λ u. alone u.0 u.1) o) (untold from)) e)
   where
-    go : (q : entry.Stack) → reverse r ≡ q → alone t q ≡ Some a → ⊥
-    go [] i j = k (none_left r i)
-    go (x ∷ q) i j = absurd (cc)
+    by : (q : entry.Stack) → reverse r ≡ q → untold from ≡ made_or (alone t q) (untold from)
+    by [] i = absurd (k (none_left r i))
+    by (x ∷ q) i = refl
+
+-- a part on nothing
+pub exp_alone : (s r : entry.Stack) (t : Built Exp) (from : ℕ) → entry.top_done s ≡ Some (t, reverse r) → r ≡ [] → t ≡ made_or (the_exp s) (untold from)
+exp_alone s r t from e k =
+    ap (λ q. made_or (alone t (reverse q)) (untold from)) (sym k)
+    ∙ sym (ap (λ o. made_or (option_and_then (λ u. alone u.0 u.1) o) (untold from)) e)
 
 -- a part that is changed at a path
 pub change_applied : (m : Mark) (s t u v : entry.Stack) (new : Built Exp) (path : Built (List Seg)) (whole : Built Exp) (made : Built Piece)

@@ -6,4 +6,5 @@ pub mod Parts
 pub mod Entries
 pub mod NotationBuilding
 pub mod NotationEntries
+pub mod HaveTrees
 pub mod Counting

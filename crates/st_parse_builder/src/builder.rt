@@ -1,6 +1,6 @@
 //! Building: actions one after another.
 
-ghost use Rattle.std.specs.Prelude.{◌≡◌, [], ◌∷◌, ◌++◌, List, length, reverse, Some, IfOk, OnSome};
+ghost use Rattle.std.specs.Prelude.{◌≡◌, [], ◌∷◌, ◌++◌, List, length, reverse, Some, None, IfOk, OnSome};
 ghost use Rattle.st_el.specs.declared.expression.Exp.{Exp};
 ghost use Rattle.st_grammar.specs.declared.sort.Sort.{Sort};
 ghost use Rattle.st_grammar.specs.Trees.{Tree};
@@ -11,8 +11,9 @@ ghost use Rattle.st_parse_builder.specs.Variables.{Occurrence, occurrences, vari
 ghost use Rattle.st_grammar.specs.inner.Actions.{acts};
 ghost use Rattle.st_parse_builder.specs.inner.Building as pieces;
 ghost use Rattle.st_parse_builder.specs.inner.PieceVariables.{stack_variables};
-ghost use Rattle.st_parse_builder.specs.inner.Parts.{Makes, Gives, made_or, untold};
+ghost use Rattle.st_parse_builder.specs.inner.Parts.{Makes, made_or, untold};
 ghost use Rattle.st_parse_builder.specs.inner.Entries.{applied, begun, noted, Stands, the_exp, exp_part};
+ghost use Rattle.st_parse_builder.specs.inner.HaveTrees.{TreesCome, exp_built};
 
 use crate::Piece;
 use crate::built::{Built, untold};
@@ -103,9 +104,11 @@ fn apply<'a>(
     seen: &mut Row<TokenRef<'a>>,
     action: &Action<'a>,
 ) -> Result<(), NoMemory>
-    ensures { (before : List Occurrence) (s u : pieces.Stack)
+    ensures fits { (before : List Occurrence) (s u : pieces.Stack)
         → pieces.applied action.now s ≡ Some u → Stands before s stack.old seen.old
         → IfOk result (λ _. Stands before u stack.new seen.new) }
+    ensures trees { IfOk result
+        (λ _. TreesCome action.now (reverse stack.old) (reverse stack.new)) }
 {
     let made = make(alloc, stack, seen, action)?;
     finish(stack, made, seen.len())
@@ -113,7 +116,7 @@ fn apply<'a>(
 
 /// The one expression on the stack. Where there is none, or more than one, it has no tree.
 fn only(stack: &mut Stack, from: usize) -> Built<Exp>
-    ensures { Gives (the_exp (reverse stack.old)) result }
+    ensures { result ≡ made_or (the_exp (reverse stack.old)) (untold from) }
 {
     let Some(top) = pop_done(stack) else {
         return untold(from);
@@ -125,8 +128,8 @@ fn only(stack: &mut Stack, from: usize) -> Built<Exp>
 }
 
 /// Builds the expression of these actions, and adds the variables that occur in it to what is seen,
-/// in the order of the text. Actions that are cut off build no expression alone; the variables of
-/// what they build are added all the same.
+/// in the order of the text. Actions that are cut off build no expression alone, so that there is no
+/// tree; the variables of what they build are added all the same.
 pub fn build<'a>(
     alloc: Global,
     actions: &[Action<'a>],
@@ -134,6 +137,7 @@ pub fn build<'a>(
 ) -> Result<Built<Exp>, NoMemory>
     ensures exact { (e : Exp) → pieces.run actions.now [] ≡ Some (piece.Done e ∷ [])
         → IfOk result (λ made. made ≡ exp_part (length seen.old) e) }
+    ensures none { exp_built actions.now ≡ None → IfOk result (λ made. made.tree ≡ None) }
     ensures seen { (s : pieces.Stack) → pieces.run actions.now [] ≡ Some s
         → IfOk result (λ _. occurrences seen.new ≡ occurrences seen.old ++ stack_variables s) }
     ensures tree { (σ : Sort) (t : Tree) → Fits σ t → actions.now ≡ acts t

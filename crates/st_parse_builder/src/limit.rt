@@ -4,34 +4,29 @@ ghost use Rattle.std.specs.Prelude.{◌≡◌, [], ◌∷◌, ◌++◌, List, If
 ghost use Rattle.st_num.specs.declared.token.Token.{Token};
 ghost use Rattle.st_parse_builder.specs.Variables.{Occurrence, occurrence, occurrences};
 ghost use Rattle.st_parse_builder.specs.Limits.{place_past};
-ghost use Rattle.st_parse_builder.specs.inner.Counting.{Knows, Counted};
+ghost use Rattle.st_parse_builder.specs.inner.Counting.{spelled, Knows, Counted};
 
-use crate::copy_name;
+use crate::name_of;
 use indexmap::IndexSet;
 use st_grammar::TokenRef;
-use st_num::{Name, NoMemory, Span};
+use st_num::{NoMemory, Span};
 use std::alloc::Global;
 
-/// Takes a name down, or gives its place where it is new and as many are known already.
-fn count(
-    alloc: Global,
-    token: &TokenRef<'_>,
+/// Takes a name down, and gives its place where there are more names with it than the limit allows.
+fn count<'a>(
+    token: &TokenRef<'a>,
     limit: usize,
-    names: &mut IndexSet<Name>,
+    names: &mut IndexSet<&'a [u8]>,
 ) -> Result<Option<Span>, NoMemory>
     ensures { IfOk result (λ place. (before : List Occurrence)
-        → Knows limit before names.old.keys
-        → Counted limit (before ++ occurrence token.now ∷ []) names.new.keys place) }
+        → Knows limit before (spelled names.old.keys)
+        → Counted limit (before ++ occurrence token.now ∷ []) (spelled names.new.keys) place) }
 {
     let token = token.get();
-    let name = copy_name(alloc, &token.kind)?;
-    if names.contains(&name) {
-        return Ok(None);
-    }
-    if names.len() >= limit {
+    names.insert(name_of(&token.kind))?;
+    if names.len() > limit {
         return Ok(Some(token.at));
     }
-    names.insert(name)?;
     Ok(None)
 }
 
@@ -44,9 +39,13 @@ pub fn place_past(
 ) -> Result<Option<Span>, NoMemory>
     ensures { IfOk result (λ place. place ≡ place_past limit (occurrences seen.now)) }
 {
+    // So few occurrences cannot have more names, and mostly there are no more.
+    if seen.len() <= limit {
+        return Ok(None);
+    }
     let mut names = IndexSet::new(alloc);
     'tokens: for token in seen {
-        if let Some(at) = count(alloc, token, limit, &mut names)? {
+        if let Some(at) = count(token, limit, &mut names)? {
             return Ok(Some(at));
         }
     }

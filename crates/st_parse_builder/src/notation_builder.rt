@@ -1,6 +1,6 @@
 //! Building types and notations: actions one after another.
 
-ghost use Rattle.std.specs.Prelude.{◌≡◌, [], ◌∷◌, reverse, Some, IfOk};
+ghost use Rattle.std.specs.Prelude.{◌≡◌, [], ◌∷◌, reverse, Some, None, IfOk};
 ghost use Rattle.st_grammar.specs.declared.sort.Sort.TheVariants.{Typ as typ, Notation as notation};
 ghost use Rattle.st_grammar.specs.Trees.{Tree};
 ghost use Rattle.st_grammar.specs.Grammar.{Fits};
@@ -9,9 +9,10 @@ ghost use Rattle.st_el.specs.declared.notation.Notation.{Notation};
 ghost use Rattle.st_parse_builder.specs.Notations.{typ_meaning, notation_meaning};
 ghost use Rattle.st_grammar.specs.inner.Actions.{acts};
 ghost use Rattle.st_parse_builder.specs.inner.NotationBuilding as pieces;
-ghost use Rattle.st_parse_builder.specs.inner.Parts.{Makes, Gives, made_or, untold};
+ghost use Rattle.st_parse_builder.specs.inner.Parts.{Makes, made_or, untold};
 ghost use Rattle.st_parse_builder.specs.inner.NotationEntries as spec;
 ghost use Rattle.st_parse_builder.specs.inner.NotationEntries.{applied, entries, typ_part, notation_part};
+ghost use Rattle.st_parse_builder.specs.inner.HaveTrees.{HaveTrees, NotationTreesCome};
 
 use crate::NotationPiece;
 use crate::built::{Built, above, untold};
@@ -91,8 +92,10 @@ fn finish(stack: &mut NotationStack, made: Option<NotationEntry>) -> Result<(), 
 
 /// One step of building. An action that does not fit makes a part without a tree.
 fn apply(alloc: Global, stack: &mut NotationStack, action: &Action<'_>) -> Result<(), NoMemory>
-    ensures { (s u : pieces.Stack) → pieces.applied action.now s ≡ Some u
+    ensures fits { (s u : pieces.Stack) → pieces.applied action.now s ≡ Some u
         → reverse stack.old ≡ entries s → IfOk result (λ _. reverse stack.new ≡ entries u) }
+    ensures trees { IfOk result
+        (λ _. NotationTreesCome action.now (reverse stack.old) (reverse stack.new)) }
 {
     let made = make(alloc, stack, action)?;
     finish(stack, made)
@@ -100,8 +103,10 @@ fn apply(alloc: Global, stack: &mut NotationStack, action: &Action<'_>) -> Resul
 
 /// All the steps, from an empty stack.
 fn apply_all(alloc: Global, actions: &[Action<'_>]) -> Result<NotationStack, NoMemory>
-    ensures { (s : pieces.Stack) → pieces.run actions.now [] ≡ Some s
+    ensures fits { (s : pieces.Stack) → pieces.run actions.now [] ≡ Some s
         → IfOk result (λ stack. reverse stack ≡ entries s) }
+    ensures trees { IfOk result (λ stack. (u : pieces.Stack)
+        → HaveTrees (reverse stack) u → pieces.run actions.now [] ≡ Some u) }
 {
     let mut stack = Row::new(alloc);
     'actions: for action in actions {
@@ -112,7 +117,7 @@ fn apply_all(alloc: Global, actions: &[Action<'_>]) -> Result<NotationStack, NoM
 
 /// The one part on the stack. Where there is none, or more than one, it has no tree.
 fn only(mut stack: NotationStack) -> NotationEntry
-    ensures { Gives (spec.the_part (reverse stack)) result }
+    ensures { result ≡ made_or (spec.the_part (reverse stack)) (untold 0) }
 {
     let Some(top) = take(&mut stack) else {
         return untold(0);
@@ -125,7 +130,7 @@ fn only(mut stack: NotationStack) -> NotationEntry
 
 /// The type that a part is. Where it is none, it has no tree.
 fn typ_of(part: NotationEntry) -> Built<Typ>
-    ensures { Gives (spec.typ_in part) result }
+    ensures { result ≡ made_or (spec.typ_in part) (untold 0) }
 {
     let Some(part) = as_type(part) else {
         return untold(0);
@@ -140,7 +145,7 @@ fn typ_of(part: NotationEntry) -> Built<Typ>
 
 /// The notation that a part is. A type alone may be an alias, and is kept as high as one may be.
 fn notation_of(part: NotationEntry) -> Built<Notation>
-    ensures { Gives (spec.notation_in part) result }
+    ensures { result ≡ made_or (spec.notation_in part) (untold 0) }
 {
     let Built { tree, height, from } = part;
     match tree {
@@ -157,6 +162,7 @@ fn notation_of(part: NotationEntry) -> Built<Notation>
 pub fn build_typ(alloc: Global, actions: &[Action<'_>]) -> Result<Built<Typ>, NoMemory>
     ensures exact { (t : Typ) → pieces.typ_built actions.now ≡ Some t
         → IfOk result (λ made. made ≡ typ_part t) }
+    ensures none { pieces.typ_built actions.now ≡ None → IfOk result (λ made. made.tree ≡ None) }
     ensures tree { (t : Tree) → Fits typ t → actions.now ≡ acts t
         → IfOk result (λ made. made ≡ typ_part (typ_meaning t)) }
 {
@@ -169,6 +175,8 @@ pub fn build_typ(alloc: Global, actions: &[Action<'_>]) -> Result<Built<Typ>, No
 pub fn build_notation(alloc: Global, actions: &[Action<'_>]) -> Result<Built<Notation>, NoMemory>
     ensures exact { (n : Notation) → pieces.notation_built actions.now ≡ Some n
         → IfOk result (λ made. made ≡ notation_part n) }
+    ensures none { pieces.notation_built actions.now ≡ None
+        → IfOk result (λ made. made.tree ≡ None) }
     ensures tree { (t : Tree) → Fits notation t → actions.now ≡ acts t
         → IfOk result (λ made. made ≡ notation_part (notation_meaning t)) }
 {

@@ -73,10 +73,6 @@ abbrev pub Makes : {P : Type 0} → Option (List P) → List P → Option P → 
 Makes o s None = o ≡ None
 Makes o s (Some p) = o ≡ Some (p ∷ s)
 
--- This is given, where there is such a thing.
-abbrev pub Gives : {A : Type 0} → Option A → A → Type 0
-Gives {A} o given = (a : A) → o ≡ Some a → given ≡ a
-
 -- what is made, and else this
 abbrev pub made_or : {A : Type 0} → Option A → A → A
 made_or None other = other
