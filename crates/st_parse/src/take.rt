@@ -118,6 +118,15 @@ fn redraft<'a>(
     Ok(())
 }
 
+/// Empties the actions, and keeps their memory for the next part.
+fn empty<'a>(alloc: Global, actions: &mut Row<Action<'a>>)
+    ensures { actions.new ≡ [] }
+{
+    let mut items = replace(actions, Row::new(alloc)).into_vec();
+    items.clear();
+    let _none = replace(actions, Row::from_vec(items));
+}
+
 /// The part ends, and what is kept of it is given up, but for the actions of an argument.
 fn give_up<'a>(alloc: Global, slot: Slot, parts: &mut Parts<'a>) -> Result<(), NoMemory>
     ensures arguments { IfOk result (λ _. parts.new.arguments
@@ -125,11 +134,16 @@ fn give_up<'a>(alloc: Global, slot: Slot, parts: &mut Parts<'a>) -> Result<(), N
     ensures rest { IfOk result (λ _.
         (parts.new.actions ≡ []) × (parts.new.words ≡ [])) }
 {
-    let actions = replace(&mut parts.actions, Row::new(alloc));
     let _words = replace(&mut parts.words, Row::new(alloc));
     match slot {
-        Slot::Argument(_, _) => parts.arguments.push(actions),
-        _ => Ok(()),
+        Slot::Argument(_, _) => {
+            let actions = replace(&mut parts.actions, Row::new(alloc));
+            parts.arguments.push(actions)
+        }
+        _ => {
+            empty(alloc, &mut parts.actions);
+            Ok(())
+        }
     }
 }
 

@@ -11,7 +11,7 @@ use crate::before::{Before, left_out, stands_before};
 use crate::counts::{Counts, counts_after, counts_pass, event_of, member_due};
 use crate::nesting::{bars, may_open, nesting_after};
 use crate::role::attachment_of;
-use crate::tally::{Tally, any_passes, single, tallies_after};
+use crate::tally::{Tally, any_passes, count, single};
 use st_grammar::Action;
 use st_num::{HIGHEST_TREE, NoMemory, Row, RuleId, Token, TokenKind};
 use st_parse_automaton::{Advance, At, Position, Progress, Shape, Step, TokenClass, advance};
@@ -121,7 +121,7 @@ pub fn judge_token<'a>(
         progress,
         nesting,
         counts,
-        tallies,
+        mut tallies,
     } = seen;
     let Some(step) = next_step(alloc, &progress, class, token)? else {
         let rule = refusal(stands_before(&progress), nesting, &token.kind);
@@ -134,7 +134,7 @@ pub fn judge_token<'a>(
     }
     let counts = counts_after(counts, event_of(member_due(&progress), &next));
     let attachment = attachment_of(&progress, class.shape);
-    let tallies = tallies_after(alloc, attachment, class.shape, &next, tallies)?;
+    count(alloc, attachment, class.shape, &next, &mut tallies)?;
     if counts_pass(counts) || any_passes(&tallies) {
         return Ok(TokenVerdict::Broken(RuleId::S3, progress));
     }

@@ -11,6 +11,7 @@ use crate::role::{Attachment, Shift, TokenRole, none_open, role_of, shift_of};
 use st_num::{MOST_PARTS, MOST_SIGNS, NoMemory, Row};
 use st_parse_automaton::{Progress, Reading, Shape, Slot};
 use std::alloc::Global;
+use std::mem::replace;
 
 /// The counts between the same brackets, or bars, so far.
 #[derive(Clone, Copy, Debug, PartialEq, Eq)]
@@ -96,34 +97,30 @@ fn counted(tally: Tally, role: TokenRole) -> Tally
     }
 }
 
-/// The tallies, with what such a token adds to the innermost.
-pub(crate) fn change(mut tallies: Row<Tally>, role: TokenRole) -> Result<Row<Tally>, NoMemory>
-    requires { AllByRecursion roles.TallyKept (reverse tallies) }
-    ensures { IfOk result (λ changed. reverse changed ≡ roles.change role (reverse tallies)) }
+/// Counts in the innermost tally what such a token adds.
+pub(crate) fn change(tallies: &mut Row<Tally>, role: TokenRole) -> Result<(), NoMemory>
+    requires { AllByRecursion roles.TallyKept (reverse tallies.old) }
+    ensures { IfOk result (λ _. reverse tallies.new ≡ roles.change role (reverse tallies.old)) }
 {
     match tallies.pop() {
-        Some(tally) => {
-            tallies.push(counted(tally, role))?;
-            Ok(tallies)
-        }
-        None => Ok(tallies),
+        Some(tally) => tallies.push(counted(tally, role)),
+        None => Ok(()),
     }
 }
 
-/// The tallies where a length closes: the one round it takes over its signs.
-fn carry(mut tallies: Row<Tally>) -> Result<Row<Tally>, NoMemory>
-    ensures { IfOk result (λ carried. reverse carried ≡ roles.carry (reverse tallies)) }
+/// A length closes: the tally round it takes over its signs.
+fn carry(tallies: &mut Row<Tally>) -> Result<(), NoMemory>
+    ensures { IfOk result (λ _. reverse tallies.new ≡ roles.carry (reverse tallies.old)) }
 {
     match tallies.pop() {
         Some(inner) => match tallies.pop() {
             Some(outer) => {
                 let signs = inner.signs;
-                tallies.push(Tally { signs, ..outer })?;
-                Ok(tallies)
+                tallies.push(Tally { signs, ..outer })
             }
-            None => Ok(tallies),
+            None => Ok(()),
         },
-        None => Ok(tallies),
+        None => Ok(()),
     }
 }
 
@@ -137,26 +134,22 @@ pub(crate) fn signs_here(tallies: &Row<Tally>) -> u32
     }
 }
 
-/// The tallies behind a token that opens or closes this.
-pub(crate) fn shift(mut tallies: Row<Tally>, shift: Shift) -> Result<Row<Tally>, NoMemory>
-    ensures { IfOk result (λ shifted. reverse shifted ≡ roles.shift shift (reverse tallies)) }
+/// A token opens or closes this.
+pub(crate) fn shift(tallies: &mut Row<Tally>, shift: Shift) -> Result<(), NoMemory>
+    ensures { IfOk result (λ _. reverse tallies.new ≡ roles.shift shift (reverse tallies.old)) }
 {
     match shift {
-        Shift::Opens => {
-            tallies.push(fresh(0))?;
-            Ok(tallies)
-        }
+        Shift::Opens => tallies.push(fresh(0)),
         Shift::OpensLength => {
-            let signs = signs_here(&tallies);
-            tallies.push(fresh(signs))?;
-            Ok(tallies)
+            let signs = signs_here(tallies);
+            tallies.push(fresh(signs))
         }
         Shift::Closes => match tallies.pop() {
-            Some(_) => Ok(tallies),
-            None => Ok(tallies),
+            Some(_) => Ok(()),
+            None => Ok(()),
         },
         Shift::ClosesLength => carry(tallies),
-        Shift::Stays => Ok(tallies),
+        Shift::Stays => Ok(()),
     }
 }
 
@@ -200,12 +193,28 @@ pub(crate) fn single(alloc: Global, signs: u32) -> Result<Row<Tally>, NoMemory>
     Ok(tallies)
 }
 
-/// The tallies where a part begins; for an argument of a definition the signs before it count.
-fn part_begins(alloc: Global, slot: Slot, signs: u32) -> Result<Row<Tally>, NoMemory>
-    ensures { IfOk result (λ tallies. reverse tallies ≡ roles.part_begins slot signs) }
+/// A part begins, and so many signs stand before: the row keeps its memory.
+fn restart(alloc: Global, signs: u32, tallies: &mut Row<Tally>) -> Result<(), NoMemory>
+    ensures { IfOk result (λ _. reverse tallies.new ≡ limits.fresh signs ∷ []) }
+{
+    let mut items = replace(tallies, Row::new(alloc)).into_vec();
+    items.clear();
+    items.push(fresh(signs))?;
+    *tallies = Row::from_vec(items);
+    Ok(())
+}
+
+/// A part begins; for an argument of a definition the signs before it count.
+fn part_begins(
+    alloc: Global,
+    slot: Slot,
+    signs: u32,
+    tallies: &mut Row<Tally>,
+) -> Result<(), NoMemory>
+    ensures { IfOk result (λ _. reverse tallies.new ≡ roles.part_begins slot signs) }
 {
     match slot {
-        Slot::Argument(_, _) => single(alloc, signs),
+        Slot::Argument(_, _) => restart(alloc, signs, tallies),
         Slot::Field
         | Slot::Case(_)
         | Slot::Var
@@ -213,46 +222,45 @@ fn part_begins(alloc: Global, slot: Slot, signs: u32) -> Result<Row<Tally>, NoMe
         | Slot::Fun
         | Slot::Rule
         | Slot::Condition
-        | Slot::Count => single(alloc, 0),
+        | Slot::Count => restart(alloc, 0, tallies),
     }
 }
 
-/// The tallies behind a token that goes on with a part.
-fn moved(
+/// A token goes on with a part.
+fn go_on(
     attachment: Attachment,
     shape: Shape,
     next: &Reading,
-    tallies: Row<Tally>,
-) -> Result<Row<Tally>, NoMemory>
-    requires { AllByRecursion roles.TallyKept (reverse tallies) }
-    ensures { IfOk result (λ moved.
-        reverse moved ≡ roles.moved attachment shape (reading_of next.now) (reverse tallies)) }
+    tallies: &mut Row<Tally>,
+) -> Result<(), NoMemory>
+    requires { AllByRecursion roles.TallyKept (reverse tallies.old) }
+    ensures { IfOk result (λ _. reverse tallies.new
+        ≡ roles.moved attachment shape (reading_of next.now) (reverse tallies.old)) }
 {
-    let changed = change(tallies, role_of(attachment, shape, next))?;
-    let shifted = shift(changed, shift_of(shape, next))?;
-    Ok(shifted)
+    change(tallies, role_of(attachment, shape, next))?;
+    shift(tallies, shift_of(shape, next))
 }
 
-/// The tallies behind a token, by how it stood and what is read behind it.
-pub(crate) fn tallies_after(
+/// Counts a token, by how it stood and what is read behind it.
+pub(crate) fn count(
     alloc: Global,
     attachment: Attachment,
     shape: Shape,
     next: &Progress,
-    tallies: Row<Tally>,
-) -> Result<Row<Tally>, NoMemory>
-    requires { AllByRecursion roles.TallyKept (reverse tallies) }
-    ensures { IfOk result (λ after.
-        reverse after
-        ≡ roles.tallies_after attachment shape (progress_of next.now) (reverse tallies)) }
+    tallies: &mut Row<Tally>,
+) -> Result<(), NoMemory>
+    requires { AllByRecursion roles.TallyKept (reverse tallies.old) }
+    ensures { IfOk result (λ _. reverse tallies.new
+        ≡ roles.tallies_after attachment shape (progress_of next.now) (reverse tallies.old)) }
 {
     match next {
-        Progress::At(_) => single(alloc, 0),
+        Progress::At(_) => restart(alloc, 0, tallies),
         Progress::Inside(slot, reading, _) => {
             if none_open(reading) {
-                part_begins(alloc, *slot, signs_here(&tallies))
+                let signs = signs_here(tallies);
+                part_begins(alloc, *slot, signs, tallies)
             } else {
-                moved(attachment, shape, reading, tallies)
+                go_on(attachment, shape, reading, tallies)
             }
         }
     }
