@@ -1,6 +1,6 @@
 -- Parts of types and notations that all have a tree behind an action were made of parts that all
 -- had one.
-use Rattle.std.proofs.Common.{◌≡◌, ℕ, List, [], ◌∷◌, ◌++◌, Option, Some, None, option_and_then, refl, sym, ap, ◌∙◌, if◌then◌else◌}
+use Rattle.std.proofs.Common.{◌≡◌, List, [], ◌∷◌, ◌++◌, Option, Some, None, option_and_then, refl, sym, ap, ◌∙◌}
 use Rattle.std.specs.Option.{option_map}
 use Rattle.st_num.specs.declared.span.Span.{Span}
 use Rattle.st_el.specs.declared.ty.Typ.{Typ}
@@ -14,7 +14,7 @@ use Rattle.st_parse_builder.specs.declared.notation_piece.NotationPiece.TheVaria
 use Rattle.st_parse_builder.specs.Notations.{marked, typ_in_parens, notation_at, notation_place, hole, atom_on, tick, notation_joined}
 use Rattle.st_parse_builder.specs.inner.NotationBuilding as pieces
 use Rattle.st_parse_builder.specs.inner.NotationBuilding.{operand_piece}
-use Rattle.st_parse_builder.specs.inner.Parts.{above, kept, untold, over, raised, both, read_tree, made_or}
+use Rattle.st_parse_builder.specs.inner.Parts.{above, untold, over, raised, both, read_tree, made_or}
 use Rattle.st_parse_builder.specs.inner.NotationEntries.{Stack, type_in, whole_in, types_in, elements_in, place_in, as_notation, top_notation, top_type, top_whole, top_types, top_elements, top_place, more_types, more_elements, part_behind, put_part, is_one, enclosed_types, applied, the_part, typ_in, open_notation, notation_in}
 use Rattle.st_parse_builder.specs.inner.HaveTrees.{HaveTrees, NotationTreesCome}
 use Rattle.st_parse_builder.proofs.PartLemmas.{part}
