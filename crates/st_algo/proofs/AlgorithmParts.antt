@@ -6,7 +6,7 @@ use Rattle.st_il.specs.declared.definition.Il.{Il}
 use Rattle.st_il.specs.declared.definition.RuleDef.{RuleDef}
 use Rattle.st_il.specs.declared.expression.IlExp.{IlExp}
 use Rattle.st_il.specs.declared.expression.IlPrem.{IlPrem}
-use Rattle.st_semantics.specs.Names.{Name}
+use Rattle.st_il.specs.Names.{Name}
 use Rattle.st_semantics.specs.Directions.{mask, inputs_by, outputs_by}
 use Rattle.st_semantics.specs.Orders.{inputs_of_rule, in_order}
 use Rattle.st_semantics.specs.Variables.{vars_of, prem_vars}

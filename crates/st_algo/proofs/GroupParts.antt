@@ -5,8 +5,8 @@ use Rattle.std.specs.Borrow.{Bor}
 use Rattle.std.specs.Option.{option_copied}
 use Rattle.st_il.specs.declared.definition.IlDef.{IlDef}
 use Rattle.st_il.specs.declared.definition.IlDef.TheVariants.{Syntax, Var, Relation, Rule, Fun, Clause}
-use Rattle.st_semantics.specs.Names.{Name}
-use Rattle.st_semantics.specs.Definitions.{clauses_in, clauses_from, funs_in}
+use Rattle.st_il.specs.Names.{Name}
+use Rattle.st_il.specs.Definitions.{clauses_in, clauses_from, funs_in}
 use Rattle.st_semantics.proofs.Names.{bytes-path}
 use Rattle.st_order.specs.Known.{all_now, at}
 use Rattle.st_order.proofs.HoleParts.{drop_all}

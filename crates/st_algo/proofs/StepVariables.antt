@@ -11,7 +11,7 @@ use Rattle.st_il.specs.declared.expression.IlPrem.TheOpen.{IlPrem-F}
 use Rattle.st_il.specs.declared.expression.Iteration.{Iteration}
 use Rattle.st_il.specs.declared.expression.ListItem.{ListItem}
 use Rattle.st_il.specs.declared.expression.PathSeg.{PathSeg}
-use Rattle.st_semantics.specs.Names.{Name, has_name, all_known, without}
+use Rattle.st_il.specs.Names.{Name, has_name, all_known, without}
 use Rattle.st_semantics.specs.Directions.{mask, inputs_by, outputs_by}
 use Rattle.st_semantics.specs.Iterations.{count_of, index_of}
 use Rattle.st_semantics.specs.Operands.{item_at, segment_at}

@@ -6,7 +6,7 @@ use Rattle.st_il.specs.declared.definition.ClauseDef.{ClauseDef}
 use Rattle.st_il.specs.declared.definition.Il.{Il}
 use Rattle.st_il.specs.declared.expression.IlExp.{IlExp}
 use Rattle.st_il.specs.declared.expression.IlPrem.{IlPrem}
-use Rattle.st_semantics.specs.Names.{Name, has_name, all_known}
+use Rattle.st_il.specs.Names.{Name, has_name, all_known}
 use Rattle.st_semantics.specs.Parts.{option_list}
 use Rattle.st_semantics.specs.Variables.{vars, vars_of, prem_vars, prems_vars}
 use Rattle.st_semantics.specs.Patterns.{is_pattern, bound_by}

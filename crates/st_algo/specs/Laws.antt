@@ -6,7 +6,7 @@ use Rattle.st_il.specs.declared.definition.Il.{Il}
 use Rattle.st_il.specs.declared.definition.RuleDef.{RuleDef}
 use Rattle.st_il.specs.declared.expression.IlPrem.{IlPrem, fold-IlPrem}
 use Rattle.st_il.specs.declared.expression.IlPrem.TheOpen.{IlPrem-F}
-use Rattle.st_semantics.specs.Definitions.{rules_in, clauses_in}
+use Rattle.st_il.specs.Definitions.{rules_in, clauses_in}
 use Rattle.st_semantics.specs.Directions.{mask}
 use Rattle.st_semantics.specs.ModeRules.{keeps_m3, keeps_m4, keeps_m6}
 use Rattle.st_semantics.specs.Orders.{is_order}

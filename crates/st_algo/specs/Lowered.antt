@@ -14,8 +14,8 @@ use Rattle.st_il.specs.declared.expression.IlPrem.TheOpen.{IlPrem-F}
 use Rattle.st_il.specs.declared.expression.Iteration.{Iteration}
 use Rattle.st_il.specs.declared.expression.ListItem.{ListItem}
 use Rattle.st_il.specs.declared.expression.PathSeg.{PathSeg}
-use Rattle.st_semantics.specs.Names.{Name, all_known, without}
-use Rattle.st_semantics.specs.Definitions.{relations, rules_of, funs_in, clauses_of}
+use Rattle.st_il.specs.Names.{Name, all_known, without}
+use Rattle.st_il.specs.Definitions.{relations, rules_of, funs_in, clauses_of}
 use Rattle.st_semantics.specs.Directions.{inputs_of, outputs_of}
 use Rattle.st_semantics.specs.Iterations.{index_of}
 use Rattle.st_semantics.specs.Variables.{vars, vars_of, prem_vars, prem_vars_at}

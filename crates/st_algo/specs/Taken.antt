@@ -2,7 +2,7 @@
 use Rattle.std.specs.Prelude.{Bool, true, ◌&&◌, List, [], ◌∷◌, ◌++◌}
 use Rattle.std.specs.List.{list_all}
 use Rattle.st_il.specs.declared.expression.Iteration.{Iteration}
-use Rattle.st_semantics.specs.Names.{Name, all_known, without}
+use Rattle.st_il.specs.Names.{Name, all_known, without}
 use Rattle.st_semantics.specs.Iterations.{count_of, index_of}
 use Rattle.st_semantics.specs.Variables.{vars, vars_of}
 use Rattle.st_semantics.specs.Patterns.{bound_by}

@@ -1,7 +1,7 @@
 //! The algorithms of the clauses of all functions.
 
 ghost use Rattle.std.specs.Prelude.{◌≡◌, ◌++◌, ◌∷◌, [], ℕ, List, map, IfOk, OnOk};
-ghost use Rattle.st_semantics.specs.Definitions.{funs_in, clauses_of};
+ghost use Rattle.st_il.specs.Definitions.{funs_in, clauses_of};
 ghost use Rattle.st_order.specs.Known.{AreDirections, all_now};
 ghost use Rattle.st_algo.specs.Lowered.{clause_algorithm, fun_algorithms};
 ghost use Rattle.st_algo.specs.inner.Groups.{members};

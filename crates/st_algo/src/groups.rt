@@ -1,7 +1,7 @@
 //! Rules by the names of their relations, and clauses by those of their functions.
 
 ghost use Rattle.std.specs.Prelude.{◌≡◌, ◌++◌, ◌∷◌, [], ℕ, List, Some, bytes_eq, if◌then◌else◌, IfOk, OnOk};
-ghost use Rattle.st_semantics.specs.Definitions.{rules_of, rules_in, rules_from, clauses_of, clauses_in, clauses_from};
+ghost use Rattle.st_il.specs.Definitions.{rules_of, rules_in, rules_from, clauses_of, clauses_in, clauses_from};
 ghost use Rattle.st_order.specs.Known.{all_now, at};
 ghost use Rattle.st_algo.specs.inner.Groups.{members};
 

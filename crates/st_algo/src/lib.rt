@@ -21,6 +21,5 @@ mod relations;
 mod step;
 
 pub use algorithm::{AlgoStep, Algorithm, Algos};
-pub use copy::copy_exp;
 pub use laws::steps_can_be_taken;
 pub use lowered::lower;

@@ -3,7 +3,7 @@
 ghost use Rattle.std.specs.Prelude.{◌≡◌, ℕ, List, map, IfOk};
 ghost use Rattle.std.specs.List.{enumerate_from};
 ghost use Rattle.std.specs.Option.{option_copied, option_map};
-ghost use Rattle.st_semantics.specs.Definitions.{relations, rules_of};
+ghost use Rattle.st_il.specs.Definitions.{relations, rules_of};
 ghost use Rattle.st_order.specs.Known.{AreDirections, all_now};
 ghost use Rattle.st_algo.specs.Lowered.{rule_algorithm, order_at, orders_at, rule_algorithms, relation_algorithms, all_relations};
 ghost use Rattle.st_algo.specs.inner.Groups.{members};

@@ -9,9 +9,9 @@ ghost use Rattle.st_order.specs.Known.{AreDirections};
 ghost use Rattle.st_algo.specs.Lowered.{step_of_sides, step_of_condition, step_of};
 
 use crate::algorithm::AlgoStep;
-use crate::copy::{copy_exp, copy_iteration, copy_refs};
+use crate::copy::copy_refs;
 use indexmap::IndexSet;
-use st_il::{IlExp, IlPrem, Iteration};
+use st_il::{IlExp, IlPrem, Iteration, copy_exp, copy_iteration};
 use st_num::{Boxed, Name, NoMemory, Row, copy_names};
 use st_order::class::{bound_inside, is_bound, is_matched, others};
 use st_order::directed::at_holes;

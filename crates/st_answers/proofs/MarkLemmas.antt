@@ -11,8 +11,8 @@ use Rattle.st_semantics.specs.declared.unfit.Unfit.{Unfit}
 use Rattle.st_order.specs.Known.{all_now}
 use Rattle.st_order.specs.Modes.{HasFew}
 use Rattle.st_order.specs.Tagged.{IsTagged}
-use Rattle.st_semantics.specs.Names.{Name}
-use Rattle.st_semantics.specs.Definitions.{relations, relation_named}
+use Rattle.st_il.specs.Names.{Name}
+use Rattle.st_il.specs.Definitions.{relations, relation_named}
 use Rattle.st_semantics.specs.Directions.{IsStepping}
 use Rattle.st_semantics.specs.Marks.{HasUnfit, HasMark, U0, Unsearchable, U5}
 use Rattle.st_answers.specs.MarkTexts.{unfit_text, IsMarkText}

@@ -21,8 +21,8 @@ use Rattle.st_order.specs.Known.{all_now, at}
 use Rattle.st_semantics.specs.declared.unfit.Unfit.{Unfit}
 use Rattle.st_semantics.specs.declared.unfit.Unfit.TheVariants as unfit
 use Rattle.st_semantics.specs.declared.unfit.Unordered.{Unordered}
-use Rattle.st_semantics.specs.Names.{Name}
-use Rattle.st_semantics.specs.Definitions.{relations, relations_in, rules_in, rules_of, rules_from}
+use Rattle.st_il.specs.Names.{Name}
+use Rattle.st_il.specs.Definitions.{relations, relations_in, rules_in, rules_of, rules_from}
 use Rattle.st_semantics.specs.Directions.{direction}
 use Rattle.st_semantics.specs.Marks.{rule_name_of, HasOwn, HasUnfit}
 use Rattle.st_semantics.specs.OrderOf.{order_of}

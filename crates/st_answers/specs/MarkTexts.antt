@@ -5,7 +5,7 @@ use Rattle.st_il.specs.declared.definition.Il.{Il}
 use Rattle.st_semantics.specs.declared.unfit.Unfit.{Unfit}
 use Rattle.st_semantics.specs.declared.unfit.Unfit.TheVariants as unfit
 use Rattle.st_semantics.specs.Marks.{Mark, U0, Unsearchable, U5, HasMark}
-use Rattle.st_semantics.specs.Names.{Name}
+use Rattle.st_il.specs.Names.{Name}
 
 -- a mark of a declared relation, and its parts
 abbrev pub unfit_text : Unfit → List ℕ

@@ -5,7 +5,7 @@ ghost use Rattle.std.specs.Option.{option_map};
 ghost use Rattle.st_il.specs.declared.definition.Il.{Il as Language};
 ghost use Rattle.st_order.specs.Modes.{HasFew, AreModes};
 ghost use Rattle.st_order.specs.Tagged.{IsTagged};
-ghost use Rattle.st_semantics.specs.Definitions.{syntaxes, relations, relation_named};
+ghost use Rattle.st_il.specs.Definitions.{syntaxes, relations, relation_named};
 ghost use Rattle.st_semantics.specs.Marks.{HasUnfit};
 ghost use Rattle.st_answers.specs.MarkTexts.{unfit_text, IsMarkText};
 ghost use Rattle.st_answers.specs.inner.Marking.{IsFirstNamed};

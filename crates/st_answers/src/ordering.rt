@@ -4,7 +4,7 @@ ghost use Rattle.std.specs.Prelude.{◌≡◌, ◌≢◌, ◌<◌, ◌^◌, ◌+
 ghost use Rattle.st_modes.specs.inner.Citations.{rules_under};
 ghost use Rattle.st_order.specs.Modes.{HasFew, AreModes, orders_in};
 ghost use Rattle.st_order.specs.Known.{AreDirections, all_now};
-ghost use Rattle.st_semantics.specs.Definitions.{relations};
+ghost use Rattle.st_il.specs.Definitions.{relations};
 ghost use Rattle.st_semantics.specs.Marks.{HasUnfit, full_name};
 ghost use Rattle.st_semantics.specs.OrderOf.{order_of};
 ghost use Rattle.st_answers.specs.OrderTexts.{numbers_text, variable_text, order_text, rule_line, relation_lines, orders_text};

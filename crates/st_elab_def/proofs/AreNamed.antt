@@ -20,8 +20,8 @@ use Rattle.st_il.specs.declared.definition.RuleDef.{RuleDef}
 use Rattle.st_il.specs.declared.definition.SyntaxBody.{SyntaxBody}
 use Rattle.st_il.specs.declared.definition.SyntaxDef.{SyntaxDef}
 use Rattle.st_type_table.specs.Meaning.{body_of as body_named}
-use Rattle.st_semantics.specs.Names.{has_name}
-use Rattle.st_semantics.specs.Definitions.{syntaxes, relations_in, rules_in, rules_from, funs_in}
+use Rattle.st_il.specs.Names.{has_name}
+use Rattle.st_il.specs.Definitions.{syntaxes, relations_in, rules_in, rules_from, funs_in}
 use Rattle.st_ilcheck.specs.Naming.{is_once}
 use Rattle.st_ilcheck.specs.Declarations.{IsMode, IsOnceIn, IsDeclared, cited, syntax_names, relation_names, function_names, variable_names, rule_names}
 use Rattle.st_ilcheck.proofs.SyntaxLemmas.{unnamed, named_before}

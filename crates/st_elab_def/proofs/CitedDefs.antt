@@ -29,7 +29,7 @@ use Rattle.st_il.specs.declared.ty.Ty.{Ty}
 use Rattle.st_il.specs.Template.{tag_of}
 use Rattle.st_type_table.specs.Breach as types
 use Rattle.st_type_table.specs.Leads.{names_in}
-use Rattle.st_semantics.specs.Definitions.{syntaxes}
+use Rattle.st_il.specs.Definitions.{syntaxes}
 use Rattle.st_ilcheck.specs.Declarations.{Tagged, IsTag, types_cited, alternative_cited, alternative_tags, body_cited, body_tags, cited}
 use Rattle.st_elab_sig.specs.Types.{ty_of}
 use Rattle.st_elab_sig.specs.Signatures.{template_of, holes_of}

@@ -11,7 +11,7 @@ use Rattle.st_el.specs.declared.definition.Def.{Def}
 use Rattle.st_el.specs.declared.definition.DefNode.{DefNode}
 use Rattle.st_el.specs.declared.definition.DefNode.TheVariants.{Syntax, Var, Relation, Rule, Fun, Clause}
 use Rattle.st_el.specs.Erasure.{is_fragment, alternatives, joined as joined_body, joined_node, joined_at, joined_behind}
-use Rattle.st_semantics.specs.Names.{has_name}
+use Rattle.st_il.specs.Names.{has_name}
 use Rattle.st_ilcheck.specs.Naming.{is_once}
 use Rattle.st_ilcheck.specs.Declarations.{times}
 use Rattle.st_elab_table.specs.declared.decls.Decls.{Decls}

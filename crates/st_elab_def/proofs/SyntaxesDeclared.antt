@@ -6,7 +6,7 @@ use Rattle.st_il.specs.declared.definition.IlDef.{IlDef}
 use Rattle.st_il.specs.declared.definition.IlDef.TheVariants as il
 use Rattle.st_il.specs.declared.definition.SyntaxDef.{SyntaxDef}
 use Rattle.st_type_table.specs.Breach as types
-use Rattle.st_semantics.specs.Definitions.{syntaxes, syntaxes_in}
+use Rattle.st_il.specs.Definitions.{syntaxes, syntaxes_in}
 use Rattle.st_ilcheck.specs.Declarations.{IsDeclared}
 use Rattle.st_ilcheck.proofs.SyntaxLemmas.{prefix-is, syntax-there, syntax-within}
 use Rattle.st_elab_law.specs.Agreement.{syntaxes as declared_syntaxes}

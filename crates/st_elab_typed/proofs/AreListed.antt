@@ -18,7 +18,7 @@ use Rattle.st_dims.specs.declared.mention.Occurrence.{Occurrence as Mentioned}
 use Rattle.st_dims.specs.Mentions.{occurrences_in, indices_in}
 use Rattle.st_dims.specs.Dimensions.{Table, chains_of, dimension_in, IsFirstShortest}
 use Rattle.st_dims.specs.Breaches.{same_kind, begins_with, is_misplaced, misplaced_in}
-use Rattle.st_semantics.specs.Names.{has_name}
+use Rattle.st_il.specs.Names.{has_name}
 use Rattle.st_semantics.specs.Environments.{listed_as, listed_names}
 use Rattle.st_ilcheck.specs.Naming.{is_once}
 use Rattle.st_ilcheck.specs.Variables.{Occurrence, BeginsWith, IsListed, AreListed}

@@ -26,7 +26,7 @@ use Rattle.st_il.specs.Occurrences.{occurs_in_prem}
 use Rattle.st_type_table.specs.Leads.{names_in}
 use Rattle.st_dims.specs.declared.within.Within.{Within}
 use Rattle.st_dims.specs.Around.{inside}
-use Rattle.st_semantics.specs.Names.{Name, flattened}
+use Rattle.st_il.specs.Names.{Name, flattened}
 use Rattle.st_semantics.specs.Iterations.{count_of}
 use Rattle.st_semantics.specs.Operands.{operands_at, item_exp, segment_exps}
 use Rattle.st_semantics.specs.Variables.{Counted, counted_at, called, called_at, called_in, prem_called, prem_called_at, relations_cited, relations_cited_at}

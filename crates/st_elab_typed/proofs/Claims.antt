@@ -9,7 +9,7 @@ use Rattle.st_il.specs.declared.ty.Ty.{Ty}
 use Rattle.st_type_table.specs.Same.{Same}
 use Rattle.st_notation.specs.Fits.{Filling, one, run, missing}
 use Rattle.st_dims.specs.declared.within.Within.{Within}
-use Rattle.st_semantics.specs.Definitions.{syntaxes, funs_in}
+use Rattle.st_il.specs.Definitions.{syntaxes, funs_in}
 use Rattle.st_elab_table.specs.declared.decls.Decls.{Decls}
 use Rattle.st_elab_table.specs.declared.decls.Scope.{Scope}
 use Rattle.st_elab_table.specs.Questions.{Question, check, infer, item, hole, Made, Step}

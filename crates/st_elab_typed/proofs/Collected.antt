@@ -6,7 +6,7 @@ use Rattle.st_il.specs.declared.expression.IlExp.TheOpen.{IlExp-F, Iteration-F, 
 use Rattle.st_il.specs.declared.expression.Iteration.{Iteration, out-Iteration, fold-Iteration, fold_out-Iteration, map-Iteration}
 use Rattle.st_il.specs.declared.expression.ListItem.{ListItem, out-ListItem, fold-ListItem, fold_out-ListItem, map-ListItem}
 use Rattle.st_il.specs.declared.expression.PathSeg.{PathSeg, out-PathSeg, fold-PathSeg, fold_out-PathSeg, map-PathSeg}
-use Rattle.st_semantics.specs.Names.{flattened}
+use Rattle.st_il.specs.Names.{flattened}
 use Rattle.st_semantics.specs.Iterations.{count_at, index_at, kind_at}
 use Rattle.st_semantics.specs.Operands.{operands_at, item_at, segment_at, item_exp, segment_exps}
 use Rattle.st_elab_typed.proofs.ExpInduction.{Level}

@@ -5,7 +5,7 @@ use Rattle.st_il.specs.declared.definition.Il.{Il}
 use Rattle.st_il.specs.declared.definition.IlDef.{IlDef}
 use Rattle.st_il.specs.declared.definition.IlDef.TheVariants as def
 use Rattle.st_il.specs.declared.definition.SyntaxDef.{SyntaxDef}
-use Rattle.st_semantics.specs.Definitions.{syntaxes_in, relations_in, funs_in}
+use Rattle.st_il.specs.Definitions.{syntaxes_in, relations_in, funs_in}
 use Rattle.st_elab_table.specs.declared.decls.Decls.{Decls}
 use Rattle.st_elab_law.specs.Agreement.{syntaxes, fun_in, relation_in, Declares}
 use Rattle.st_elab_typed.specs.RuleLaw.{AreDeclaredIn}

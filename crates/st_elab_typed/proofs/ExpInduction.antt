@@ -6,7 +6,7 @@ use Rattle.st_il.specs.declared.expression.IlExp.TheOpen.{IlExp-F, Iteration-F, 
 use Rattle.st_il.specs.declared.expression.Iteration.{Iteration, out-roll-Iteration, map-Iteration}
 use Rattle.st_il.specs.declared.expression.ListItem.{ListItem, out-roll-ListItem, map-ListItem}
 use Rattle.st_il.specs.declared.expression.PathSeg.{PathSeg, out-roll-PathSeg, map-PathSeg}
-use Rattle.st_semantics.specs.Names.{flattened}
+use Rattle.st_il.specs.Names.{flattened}
 use Rattle.st_semantics.specs.Operands.{operands_at, item_exp, segment_exps, item_at, segment_at}
 use Rattle.st_semantics.specs.Iterations.{count_at, count_of}
 use Rattle.st_elab_typed.proofs.Members.{Each-append}

@@ -16,8 +16,8 @@ use Rattle.st_type_table.specs.Joins.{Joins}
 use Rattle.st_type_table.specs.Same.{Same}
 use Rattle.st_type_table.specs.Sub.{Sub}
 use Rattle.st_type_table.proofs.SubLaws.{Same-trans}
-use Rattle.st_semantics.specs.Names.{Name}
-use Rattle.st_semantics.specs.Definitions.{syntaxes}
+use Rattle.st_il.specs.Names.{Name}
+use Rattle.st_il.specs.Definitions.{syntaxes}
 use Rattle.st_semantics.specs.Environments.{wrapped, type_of, listed_as}
 use Rattle.st_semantics.specs.OperationTypes.{number_type}
 use Rattle.st_elab_table.specs.Operators.{connected, equated, ordered, reckoned}

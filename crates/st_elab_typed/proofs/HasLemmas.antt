@@ -8,7 +8,7 @@ use Rattle.st_il.specs.declared.ty.Ty.{Ty}
 use Rattle.st_type_table.specs.Meaning.{Means}
 use Rattle.st_type_table.specs.Same.{Same}
 use Rattle.st_type_table.proofs.SameLemmas.{Same-refl}
-use Rattle.st_semantics.specs.Definitions.{syntaxes}
+use Rattle.st_il.specs.Definitions.{syntaxes}
 use Rattle.st_semantics.specs.OperationTypes.{Level}
 use Rattle.st_ilcheck.specs.FoundTypes.{origin, TypeFrom}
 use Rattle.st_ilcheck.specs.Naming.{names_kept}

@@ -5,7 +5,7 @@ use Rattle.st_il.specs.declared.definition.Il.{Il}
 use Rattle.st_il.specs.declared.definition.Listed.{Listed}
 use Rattle.st_il.specs.declared.expression.IlExp.{IlExp, out-IlExp}
 use Rattle.st_il.specs.declared.ty.Ty.{Ty}
-use Rattle.st_semantics.specs.Definitions.{syntaxes}
+use Rattle.st_il.specs.Definitions.{syntaxes}
 use Rattle.st_semantics.specs.OperationTypes.{Level}
 use Rattle.st_ilcheck.specs.FoundTypes.{origin, TypeFrom, last_type}
 use Rattle.st_ilcheck.specs.Naming.{names_kept}

@@ -8,7 +8,7 @@ use Rattle.st_il.specs.declared.expression.IlPrem.TheOpen.{IlPrem-F}
 use Rattle.st_il.specs.declared.expression.Iteration.{Iteration, out-Iteration}
 use Rattle.st_dims.specs.declared.within.Within.{Within}
 use Rattle.st_dims.specs.Around.{entered, outside}
-use Rattle.st_semantics.specs.Names.{flattened}
+use Rattle.st_il.specs.Names.{flattened}
 use Rattle.st_semantics.specs.Iterations.{count_of, index_of, kind_of}
 use Rattle.st_semantics.proofs.Wider.{Parts, prem-ind}
 use Rattle.st_ilcheck.specs.Variables.{indices, indices_at, indices_in, count_indices_at, prem_indices, prem_indices_at, all_indices}

@@ -28,8 +28,8 @@ use Rattle.st_type_table.specs.Meaning.{Means}
 use Rattle.st_type_table.specs.Same.{Same}
 use Rattle.st_dims.specs.declared.within.Within.{Within}
 use Rattle.st_dims.specs.Around.{kind_at, index_at, inside}
-use Rattle.st_semantics.specs.Names.{Name}
-use Rattle.st_semantics.specs.Definitions.{syntaxes}
+use Rattle.st_il.specs.Names.{Name}
+use Rattle.st_il.specs.Definitions.{syntaxes}
 use Rattle.st_semantics.specs.Environments.{wrapped, listed_as}
 use Rattle.st_semantics.specs.Iterations.{count_of, index_of, kind_of}
 use Rattle.st_semantics.specs.Iterations as level

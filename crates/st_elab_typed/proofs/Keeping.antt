@@ -18,8 +18,8 @@ use Rattle.st_type_table.specs.Cases.{HasFields}
 use Rattle.st_type_table.specs.Sub.{Sub}
 use Rattle.st_notation.specs.declared.filled.Shape.{Shape}
 use Rattle.st_dims.specs.declared.within.Within.{Within}
-use Rattle.st_semantics.specs.Names.{Name}
-use Rattle.st_semantics.specs.Definitions.{syntaxes}
+use Rattle.st_il.specs.Names.{Name}
+use Rattle.st_il.specs.Definitions.{syntaxes}
 use Rattle.st_semantics.specs.OperationTypes.{number_type, field_type}
 use Rattle.st_elab_table.specs.declared.decls.Scope.{Scope}
 use Rattle.st_elab_table.specs.Choice.{shape_of, HaveShapes}

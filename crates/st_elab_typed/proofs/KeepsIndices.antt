@@ -13,7 +13,7 @@ use Rattle.st_il.specs.declared.expression.IlPrem.{IlPrem}
 use Rattle.st_dims.specs.declared.mention.Mention.{Mention}
 use Rattle.st_dims.specs.declared.mention.Mention.TheVariants.{Occurs, Indexes, Iterates}
 use Rattle.st_dims.specs.Mentions.{mentions_in, occurrences_in, indices_in}
-use Rattle.st_semantics.specs.Names.{has_name}
+use Rattle.st_il.specs.Names.{has_name}
 use Rattle.st_ilcheck.specs.Variables.{Occurrence, all_occurrences, all_indices, names_of, IndicesStayInside}
 use Rattle.st_ilcheck.specs.Typed.{KeepsIndices}
 use Rattle.st_elab_table.specs.declared.decls.Decls.{Decls}

@@ -17,7 +17,7 @@ use Rattle.st_type_table.specs.Meaning.{Means}
 use Rattle.st_type_table.proofs.SameLemmas.{Same-refl}
 use Rattle.st_notation.specs.Fits.{Filling, one, run, missing}
 use Rattle.st_dims.specs.declared.within.Within.{Within}
-use Rattle.st_semantics.specs.Definitions.{syntaxes}
+use Rattle.st_il.specs.Definitions.{syntaxes}
 use Rattle.st_semantics.specs.Operands.{item_at, item_exp}
 use Rattle.st_elab_table.specs.declared.decls.Scope.{Scope}
 use Rattle.st_elab_table.specs.Forms.{place, is_spliced, is_told_by_type}

@@ -30,7 +30,7 @@ use Rattle.st_il.specs.Occurrences.{occurs}
 use Rattle.st_type_table.specs.Meaning.{fields_of}
 use Rattle.st_dims.specs.declared.within.Within.{Within}
 use Rattle.st_dims.specs.Around.{kind_at, index_at, inside, entered}
-use Rattle.st_semantics.specs.Names.{flattened}
+use Rattle.st_il.specs.Names.{flattened}
 use Rattle.st_semantics.specs.Iterations.{count_of, index_of, kind_of, count_at as il_count_at, index_at as il_index_at, kind_at as il_kind_at}
 use Rattle.st_semantics.specs.Operands.{operands_at, item_at, segment_at, item_exp, segment_exps}
 use Rattle.st_notation.specs.Elements.{opened}

@@ -18,7 +18,7 @@ use Rattle.st_il.specs.Occurrences.{occurs}
 use Rattle.st_dims.specs.declared.within.Within.{Within}
 use Rattle.st_dims.specs.Around.{entered}
 use Rattle.st_dims.specs.Dimensions.{dimension_in}
-use Rattle.st_semantics.specs.Names.{has_name}
+use Rattle.st_il.specs.Names.{has_name}
 use Rattle.st_semantics.specs.Environments.{listed_as}
 use Rattle.st_semantics.specs.Iterations.{count_of, index_of, kind_of, count_at}
 use Rattle.st_semantics.specs.Operands.{operands_at, item_exp, segment_exps}

@@ -12,7 +12,7 @@ use Rattle.st_il.specs.declared.expression.IlPrem.{IlPrem, roll-IlPrem, out-roll
 use Rattle.st_il.specs.declared.expression.IlPrem.TheOpen.{IlPrem-F}
 use Rattle.st_dims.specs.declared.within.Within.{Within}
 use Rattle.st_dims.specs.Around.{entered}
-use Rattle.st_semantics.specs.Names.{flattened}
+use Rattle.st_il.specs.Names.{flattened}
 use Rattle.st_semantics.specs.Iterations.{count_of, index_of, kind_of, count_at, index_at, kind_at}
 use Rattle.st_semantics.specs.Operands.{item_exp, segment_exps, item_at, segment_at}
 use Rattle.st_elab_law.specs.Notes.{Note, occurs as occurring, indexes, Notes, beside, all_of}

@@ -11,7 +11,7 @@ use Rattle.st_il.specs.declared.expression.IlExp.TheOpen.{IlExp-F}
 use Rattle.st_il.specs.declared.expression.Iteration.{Iteration, out-Iteration}
 use Rattle.st_dims.specs.declared.within.Within.{Within}
 use Rattle.st_dims.specs.Around.{entered}
-use Rattle.st_semantics.specs.Names.{flattened, has_name}
+use Rattle.st_il.specs.Names.{flattened, has_name}
 use Rattle.st_semantics.specs.Iterations.{count_of, index_of, kind_of}
 use Rattle.st_ilcheck.specs.Variables.{Occurrence, deeper, inside, occurrences, occurrences_in}
 use Rattle.st_elab_law.specs.Notes.{Note, occurs as occurring, indexes, Notes, nothing, beside, all_of}

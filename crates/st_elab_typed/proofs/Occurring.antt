@@ -9,7 +9,7 @@ use Rattle.st_il.specs.declared.expression.Iteration.{Iteration, out-Iteration, 
 use Rattle.st_il.specs.declared.expression.ListItem.{ListItem, out-ListItem, fold_out-ListItem, map-ListItem}
 use Rattle.st_il.specs.declared.expression.PathSeg.{PathSeg, out-PathSeg, fold_out-PathSeg, map-PathSeg}
 use Rattle.st_il.specs.Occurrences.{Counted, in_any, occurs_at, occurs_count_at, occurs_item_at, occurs_step_at, occurs, occurs_in_count, occurs_in_item, occurs_in_step}
-use Rattle.st_semantics.specs.Names.{Name, has_name, flattened}
+use Rattle.st_il.specs.Names.{Name, has_name, flattened}
 use Rattle.st_semantics.specs.Iterations.{count_of, index_of, kind_of, count_at, index_at, kind_at}
 use Rattle.st_semantics.specs.Operands.{operands_at, item_at, segment_at, item_exp, segment_exps}
 use Rattle.st_semantics.specs.OperationTypes.{Level}

@@ -18,7 +18,7 @@ use Rattle.st_type_table.specs.Same.{Same}
 use Rattle.st_type_table.specs.Sub.{Sub}
 use Rattle.st_type_table.proofs.SameLemmas.{Same-refl}
 use Rattle.st_dims.specs.declared.within.Within.{Within}
-use Rattle.st_semantics.specs.Definitions.{syntaxes}
+use Rattle.st_il.specs.Definitions.{syntaxes}
 use Rattle.st_semantics.specs.OperationTypes.{number_type}
 use Rattle.st_elab_table.specs.declared.decls.Scope.{Scope}
 use Rattle.st_elab_table.specs.declared.operator.Operator.{Operator}

@@ -7,7 +7,7 @@ use Rattle.st_il.specs.declared.expression.IlExp.{IlExp}
 use Rattle.st_il.specs.declared.expression.IlPrem.{IlPrem, out-IlPrem, map-IlPrem, fold_out-IlPrem}
 use Rattle.st_il.specs.declared.expression.IlPrem.TheOpen.{IlPrem-F}
 use Rattle.st_il.specs.declared.expression.Iteration.{Iteration}
-use Rattle.st_semantics.specs.Names.{Name, has_name}
+use Rattle.st_il.specs.Names.{Name, has_name}
 use Rattle.st_semantics.specs.Iterations.{count_of, index_of, kind_of}
 use Rattle.st_semantics.specs.Scopes.{listed_inside}
 use Rattle.st_ilcheck.specs.Parts.{standing}

@@ -20,8 +20,8 @@ use Rattle.st_type_table.specs.Meaning.{Means}
 use Rattle.st_type_table.specs.Same.{SameAll}
 use Rattle.st_dims.specs.declared.within.Within.{Within}
 use Rattle.st_dims.specs.Around.{inside}
-use Rattle.st_semantics.specs.Names.{Name}
-use Rattle.st_semantics.specs.Definitions.{syntaxes, relations, relation_named as declared_relation}
+use Rattle.st_il.specs.Names.{Name}
+use Rattle.st_il.specs.Definitions.{syntaxes, relations, relation_named as declared_relation}
 use Rattle.st_semantics.specs.Iterations.{count_of, index_of, kind_of}
 use Rattle.st_semantics.specs.Scopes.{listed_inside}
 use Rattle.st_elab_table.specs.declared.decls.Decls.{Decls}

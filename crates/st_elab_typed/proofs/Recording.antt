@@ -26,7 +26,7 @@ use Rattle.st_notation.specs.Elements.{bare}
 use Rattle.st_notation.specs.Fits.{Filling}
 use Rattle.st_notation.proofs.FitsLemmas.{Fits-length}
 use Rattle.st_dims.specs.declared.within.Within.{Within}
-use Rattle.st_semantics.specs.Definitions.{syntaxes, funs_in}
+use Rattle.st_il.specs.Definitions.{syntaxes, funs_in}
 use Rattle.st_semantics.specs.Typing.{function_named}
 use Rattle.st_elab_table.specs.declared.decls.Scope.{Scope}
 use Rattle.st_elab_table.specs.Choice.{HaveShapes, IsChosenBy, FillsCase, IsCaseOf}

@@ -16,8 +16,8 @@ use Rattle.st_il.specs.declared.ty.Ty.{Ty}
 use Rattle.st_type_table.specs.Breach.{IsSound}
 use Rattle.st_type_table.specs.Meaning.{Means}
 use Rattle.st_type_table.proofs.Measure.{Means-total}
-use Rattle.st_semantics.specs.Names.{flattened}
-use Rattle.st_semantics.specs.Definitions.{syntaxes, relations, funs_in, relation_named as declared_relation}
+use Rattle.st_il.specs.Names.{flattened}
+use Rattle.st_il.specs.Definitions.{syntaxes, relations, funs_in, relation_named as declared_relation}
 use Rattle.st_semantics.specs.Typing.{function_named}
 use Rattle.st_elab_table.specs.declared.decls.Decls.{Decls}
 use Rattle.st_elab_table.specs.Inferred.{fun_named}

@@ -24,8 +24,8 @@ use Rattle.st_type_table.specs.Meaning.{Means}
 use Rattle.st_type_table.proofs.Measure.{Means-total}
 use Rattle.st_notation.specs.Elements.{opened}
 use Rattle.st_dims.specs.declared.within.Within.{Within}
-use Rattle.st_semantics.specs.Names.{Name}
-use Rattle.st_semantics.specs.Definitions.{syntaxes}
+use Rattle.st_il.specs.Names.{Name}
+use Rattle.st_il.specs.Definitions.{syntaxes}
 use Rattle.st_semantics.specs.Environments.{listed_as}
 use Rattle.st_elab_table.specs.declared.decls.Decls.{Decls}
 use Rattle.st_elab_table.specs.declared.decls.Scope.{Scope}

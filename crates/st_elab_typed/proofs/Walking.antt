@@ -17,8 +17,8 @@ use Rattle.st_il.specs.declared.ty.Ty.{Ty}
 use Rattle.st_il.specs.declared.ty.Ty.TheVariants as ty
 use Rattle.st_type_table.specs.Meaning.{Means}
 use Rattle.st_dims.specs.declared.within.Within.{Within}
-use Rattle.st_semantics.specs.Names.{flattened}
-use Rattle.st_semantics.specs.Definitions.{syntaxes}
+use Rattle.st_il.specs.Names.{flattened}
+use Rattle.st_il.specs.Definitions.{syntaxes}
 use Rattle.st_semantics.specs.Operands.{segment_at, segment_exps}
 use Rattle.st_semantics.specs.OperationTypes.{PathType}
 use Rattle.st_elab_table.specs.declared.decls.Scope.{Scope}

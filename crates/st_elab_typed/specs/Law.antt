@@ -12,8 +12,8 @@ use Rattle.st_type_table.specs.Breach.{IsSound}
 use Rattle.st_type_table.specs.Same.{Same}
 use Rattle.st_dims.specs.declared.within.Within.{Within}
 use Rattle.st_dims.specs.Around.{index_at, outside, inside}
-use Rattle.st_semantics.specs.Names.{Name}
-use Rattle.st_semantics.specs.Definitions.{syntaxes, funs_in}
+use Rattle.st_il.specs.Names.{Name}
+use Rattle.st_il.specs.Definitions.{syntaxes, funs_in}
 use Rattle.st_semantics.specs.Environments.{listed_as}
 use Rattle.st_semantics.specs.Iterations.{index_of}
 use Rattle.st_semantics.specs.Scopes.{listed_inside}

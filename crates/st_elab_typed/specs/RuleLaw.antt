@@ -8,7 +8,7 @@ use Rattle.st_il.specs.declared.definition.Il.{Il}
 use Rattle.st_il.specs.declared.definition.RelationDef.{RelationDef}
 use Rattle.st_il.specs.declared.definition.RuleDef.{RuleDef}
 use Rattle.st_type_table.specs.Breach.{IsSound}
-use Rattle.st_semantics.specs.Definitions.{relations}
+use Rattle.st_il.specs.Definitions.{relations}
 use Rattle.st_elab_table.specs.declared.decls.Decls.{Decls}
 use Rattle.st_elab_table.specs.Inferred.{fun_named}
 use Rattle.st_elab_table.specs.Judgements.{relation_named}

@@ -10,7 +10,7 @@ use Rattle.st_il.specs.declared.expression.IlExp.{IlExp}
 use Rattle.st_il.specs.declared.expression.IlPrem.{IlPrem, out-IlPrem}
 use Rattle.st_il.specs.declared.expression.IlPrem.TheOpen.{IlPrem-F}
 use Rattle.st_il.specs.declared.expression.Iteration.{Iteration}
-use Rattle.st_semantics.specs.Names.{Name}
+use Rattle.st_il.specs.Names.{Name}
 use Rattle.st_semantics.specs.Iterations.{count_of}
 use Rattle.st_semantics.specs.Scopes.{listed_inside}
 use Rattle.st_ilcheck.specs.Naming.{each_kept}

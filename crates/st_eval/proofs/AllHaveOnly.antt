@@ -9,8 +9,8 @@ use Rattle.st_il.specs.declared.ty.Ty.TheVariants as ty
 use Rattle.st_il.specs.declared.value.Env.{Env}
 use Rattle.st_il.specs.declared.value.Value.{Value}
 use Rattle.st_il.specs.declared.value.Value.TheVariants as value
-use Rattle.st_semantics.specs.Names.{Name, has_name, among, without}
-use Rattle.st_semantics.specs.Definitions.{syntaxes}
+use Rattle.st_il.specs.Names.{Name, has_name, among, without}
+use Rattle.st_il.specs.Definitions.{syntaxes}
 use Rattle.st_semantics.specs.Environments.{Entry, lookup, value_in, type_of, listed_as, TypedIn, IsSomeTyped}
 use Rattle.st_semantics.specs.Iterations.{index_of, Column, heads, tails, bound_to, counted_to, rows, Over, spread}
 use Rattle.st_semantics.specs.Scopes.{inner, stepped_all, indices, listed_inside}

@@ -7,7 +7,7 @@ use Rattle.st_il.specs.declared.value.Value.{Value}
 use Rattle.st_semantics.specs.declared.outcome.Outcome.{Outcome}
 use Rattle.st_semantics.specs.declared.outcome.Outcomes.{Outcomes}
 use Rattle.st_semantics.specs.declared.outcome.Outcomes.TheVariants.{Values, Stopped}
-use Rattle.st_semantics.specs.Names.{Name}
+use Rattle.st_il.specs.Names.{Name}
 use Rattle.st_semantics.specs.Evaluation.{Answers, Task, Called, Gives, GivesAll, strict, variable, call, iteration_ends, iteration, none, stop, next}
 
 module _ (defs : List SyntaxDef) (A C : Answers) (more : (fun : Name) (vs : List Value) (o : Outcome) → A fun vs o → C fun vs o) where

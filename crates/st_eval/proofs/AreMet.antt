@@ -4,7 +4,7 @@ use Rattle.st_il.specs.declared.definition.Il.{Il}
 use Rattle.st_il.specs.declared.definition.Listed.{Listed}
 use Rattle.st_il.specs.declared.expression.IlPrem.{IlPrem}
 use Rattle.st_il.specs.declared.value.Env.{Env}
-use Rattle.st_semantics.specs.Names.{Name}
+use Rattle.st_il.specs.Names.{Name}
 use Rattle.st_semantics.specs.Environments.{Entry}
 use Rattle.st_semantics.specs.Iterations.{Column, heads, bound_to, counted_to, rows}
 use Rattle.st_match.specs.declared.scope.Bound.{Bound}

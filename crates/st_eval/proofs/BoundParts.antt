@@ -6,7 +6,7 @@ use Rattle.st_il.specs.declared.expression.IlExp.{IlExp, out-IlExp, roll-IlExp, 
 use Rattle.st_il.specs.declared.expression.IlExp.TheOpen.{IlExp-F}
 use Rattle.st_il.specs.declared.expression.IlExp.TheVariants as exp
 use Rattle.st_il.specs.declared.expression.Iteration.{Iteration}
-use Rattle.st_semantics.specs.Names.{Name, has_name, all_known, without}
+use Rattle.st_il.specs.Names.{Name, has_name, all_known, without}
 use Rattle.st_semantics.specs.Operands.{operands_at, item_exp, segment_exps}
 use Rattle.st_semantics.specs.Forms.{HasForm, Strict, Variable, Calls, Iterates, by_itself, structure, absent_list, absent_option}
 use Rattle.st_semantics.specs.Formed.{IsFormed, AreFormed}

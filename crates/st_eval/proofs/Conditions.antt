@@ -19,8 +19,8 @@ use Rattle.st_il.specs.Height.{height}
 use Rattle.st_il.proofs.OrderLaws.{value_cmp_order}
 use Rattle.st_semantics.specs.declared.outcome.Outcome.{Outcome}
 use Rattle.st_semantics.specs.declared.outcome.Outcome.TheVariants.{Val, NoValue, Deep}
-use Rattle.st_semantics.specs.Names.{Name, has_name, all_known, without}
-use Rattle.st_semantics.specs.Definitions.{syntaxes}
+use Rattle.st_il.specs.Names.{Name, has_name, all_known, without}
+use Rattle.st_il.specs.Definitions.{syntaxes}
 use Rattle.st_semantics.specs.Environments.{Entry, names_of, value_in, type_of, listed_as, listed_names, AgreeOn, TypedIn, IsSomeTyped}
 use Rattle.st_semantics.specs.Parts.{limited, binary}
 use Rattle.st_semantics.specs.Operators.{equality, is_same}

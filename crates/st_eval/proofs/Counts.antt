@@ -26,7 +26,7 @@ use Rattle.st_type_table.proofs.HasTypeLemmas.{typed-opened}
 use Rattle.st_semantics.specs.declared.outcome.Outcome.{Outcome}
 use Rattle.st_semantics.specs.declared.outcome.Outcome.TheVariants.{Val, NoValue, Deep}
 use Rattle.st_semantics.specs.declared.outcome.Outcomes.TheVariants.{Values}
-use Rattle.st_semantics.specs.Names.{Name, has_name, all_known}
+use Rattle.st_il.specs.Names.{Name, has_name, all_known}
 use Rattle.st_semantics.specs.Environments.{AgreeOn, IsTypedValue, wrapped, type_of, listed_as}
 use Rattle.st_semantics.specs.Formed as formed
 use Rattle.st_semantics.specs.Formed.{IsFormed, AreFormed}

@@ -1,6 +1,6 @@
 -- The elements of an iteration from one of them on.
 use Rattle.std.proofs.Common.{◌≡◌, ℕ, zero, suc, ◌+◌, ◌-◌, ◌<◌, ◌≤◌, refl, sym, ◌∙◌, ap, List, [], ◌∷◌, drop, arith, add-one}
-use Rattle.st_semantics.specs.Names.{Name}
+use Rattle.st_il.specs.Names.{Name}
 use Rattle.st_semantics.specs.Environments.{Entry}
 use Rattle.st_semantics.specs.Iterations.{Column, tails, rows}
 use Rattle.st_match.specs.inner.Scope.{columns_from}

@@ -11,8 +11,8 @@ use Rattle.st_il.specs.declared.value.Env.{Env}
 use Rattle.st_il.specs.declared.value.Value.{Value}
 use Rattle.st_il.specs.declared.value.Value.TheVariants as value
 use Rattle.st_semantics.specs.declared.outcome.Outcome.TheVariants.{Deep}
-use Rattle.st_semantics.specs.Names.{Name, has_name, without}
-use Rattle.st_semantics.specs.Definitions.{syntaxes}
+use Rattle.st_il.specs.Names.{Name, has_name, without}
+use Rattle.st_il.specs.Definitions.{syntaxes}
 use Rattle.st_semantics.specs.Environments.{value_in, AgreeOn, TypedIn}
 use Rattle.st_semantics.specs.Parts.{natural}
 use Rattle.st_semantics.specs.Forms.{form_at, HasForm, Variable, by_itself}

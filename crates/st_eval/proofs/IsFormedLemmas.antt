@@ -9,7 +9,7 @@ use Rattle.st_il.specs.declared.expression.IlPrem.{IlPrem}
 use Rattle.st_il.specs.declared.ty.Ty.{Ty}
 use Rattle.st_il.specs.declared.type_rule.TypeRule.{TypeRule}
 use Rattle.st_il.specs.declared.value.Value.TheVariants as value
-use Rattle.st_semantics.specs.Definitions.{syntaxes}
+use Rattle.st_il.specs.Definitions.{syntaxes}
 use Rattle.st_semantics.specs.Formed as formed
 use Rattle.st_semantics.specs.Formed.{IsFormed, AreFormed, PremIsFormed}
 use Rattle.st_semantics.specs.Forms.{form_at, operation_at, building, by_itself, structure, absent_list, absent_option}

@@ -17,8 +17,8 @@ use Rattle.st_il.specs.Height.{height}
 use Rattle.st_semantics.specs.declared.outcome.Outcome.{Outcome}
 use Rattle.st_semantics.specs.declared.outcome.Outcome.TheVariants.{Val, NoValue, Deep}
 use Rattle.st_semantics.specs.declared.outcome.Outcomes.TheVariants.{Values, Stopped}
-use Rattle.st_semantics.specs.Names.{Name, has_name, among, without}
-use Rattle.st_semantics.specs.Definitions.{syntaxes}
+use Rattle.st_il.specs.Names.{Name, has_name, among, without}
+use Rattle.st_il.specs.Definitions.{syntaxes}
 use Rattle.st_semantics.specs.Environments.{Entry, lookup, value_in, names_of, type_of, AgreeOn, IsSomeTyped}
 use Rattle.st_semantics.specs.Parts.{option_list, limited}
 use Rattle.st_semantics.specs.Iterations.{count_of, index_of, kind_of, spread, Misfit, Over, gathered, gathered_as}

@@ -12,8 +12,8 @@ use Rattle.st_il.specs.declared.value.Value.{Value}
 use Rattle.st_semantics.specs.declared.outcome.Outcome.{Outcome}
 use Rattle.st_semantics.specs.declared.outcome.Outcome.TheVariants.{Val, NoValue, Deep}
 use Rattle.st_semantics.specs.declared.outcome.Outcomes.TheVariants.{Values, Stopped}
-use Rattle.st_semantics.specs.Names.{Name, has_name, among, without}
-use Rattle.st_semantics.specs.Definitions.{syntaxes}
+use Rattle.st_il.specs.Names.{Name, has_name, among, without}
+use Rattle.st_il.specs.Definitions.{syntaxes}
 use Rattle.st_semantics.specs.Environments.{AgreeOn, TypedIn}
 use Rattle.st_semantics.specs.Parts.{given}
 use Rattle.st_semantics.specs.Forms.{form_at, by_itself}

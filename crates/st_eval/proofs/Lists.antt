@@ -12,8 +12,8 @@ use Rattle.st_il.specs.declared.ty.Ty.{Ty}
 use Rattle.st_il.specs.declared.value.Env.{Env}
 use Rattle.st_il.specs.declared.value.Value.{Value}
 use Rattle.st_semantics.specs.declared.outcome.Outcome.TheVariants.{Val}
-use Rattle.st_semantics.specs.Names.{Name, has_name}
-use Rattle.st_semantics.specs.Definitions.{syntaxes}
+use Rattle.st_il.specs.Names.{Name, has_name}
+use Rattle.st_il.specs.Definitions.{syntaxes}
 use Rattle.st_semantics.specs.Environments.{value_in, names_of, wrapped, type_of, listed_as, IsTypedValue, IsSomeTyped}
 use Rattle.st_semantics.specs.Iterations.{count_of, index_of, kind_of, gathered_as}
 use Rattle.st_semantics.specs.Scopes.{inner, stepped, stepped_all, listed_inside}

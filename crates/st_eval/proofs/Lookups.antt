@@ -3,7 +3,7 @@ use Rattle.std.proofs.Common.{◌≡◌, refl, sym, ◌∙◌, ap, List, [], ◌
 use Rattle.std.specs.Prelude.{is_some}
 use Rattle.st_il.specs.declared.value.Env.{Env}
 use Rattle.st_il.specs.declared.value.Value.{Value}
-use Rattle.st_semantics.specs.Names.{Name, has_name}
+use Rattle.st_il.specs.Names.{Name, has_name}
 use Rattle.st_semantics.specs.Environments.{Entry, lookup, value_in, names_of, AgreeOn}
 use Rattle.st_semantics.proofs.Names.{bytes-path}
 use Rattle.st_eval.specs.inner.Beside.{entry_with, entries_among}

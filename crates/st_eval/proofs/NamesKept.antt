@@ -20,8 +20,8 @@ use Rattle.st_il.specs.declared.expression.Iteration.{Iteration}
 use Rattle.st_il.specs.declared.ty.Ty.{Ty}
 use Rattle.st_il.specs.declared.type_rule.TypeRule.{TypeRule}
 use Rattle.st_il.specs.declared.type_rule.TypeRule.TheVariants.{T14}
-use Rattle.st_semantics.specs.Names.{Name, has_name, without}
-use Rattle.st_semantics.specs.Definitions.{syntaxes}
+use Rattle.st_il.specs.Names.{Name, has_name, without}
+use Rattle.st_il.specs.Definitions.{syntaxes}
 use Rattle.st_semantics.specs.Environments.{listed_as}
 use Rattle.st_semantics.specs.Formed.{IsFormed}
 use Rattle.st_semantics.specs.Forms.{form_at, by_itself, Variable, Iterates}

@@ -2,7 +2,7 @@
 use Rattle.std.proofs.Common.{◌≡◌, refl, ◌∙◌, ap, ap₂, List, [], ◌∷◌, filter, inl, inr, Bool, true, false, not, ◌||◌, if◌then◌else◌, bytes_eq}
 use Rattle.st_il.specs.declared.expression.IlExp.{IlExp}
 use Rattle.st_il.specs.declared.expression.Iteration.{Iteration}
-use Rattle.st_semantics.specs.Names.{Name, has_name, all_known, among, without}
+use Rattle.st_il.specs.Names.{Name, has_name, all_known, among, without}
 use Rattle.st_semantics.specs.Iterations.{count_of}
 use Rattle.st_semantics.specs.Variables.{vars}
 use Rattle.st_semantics.specs.Depth.{bound_count}

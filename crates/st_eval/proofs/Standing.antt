@@ -13,7 +13,7 @@ use Rattle.st_il.specs.declared.expression.IlPrem.{IlPrem, out-IlPrem}
 use Rattle.st_il.specs.declared.expression.IlPrem.TheOpen.{IlPrem-F}
 use Rattle.st_il.specs.declared.expression.Iteration.{Iteration}
 use Rattle.st_il.specs.declared.ty.Ty.TheVariants as ty
-use Rattle.st_semantics.specs.Names.{Name, has_name, without}
+use Rattle.st_il.specs.Names.{Name, has_name, without}
 use Rattle.st_semantics.specs.Environments.{listed_as, listed_names}
 use Rattle.st_semantics.specs.Iterations.{count_of, index_of, kind_of}
 use Rattle.st_semantics.specs.Kinds as kinds

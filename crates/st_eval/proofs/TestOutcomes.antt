@@ -10,7 +10,7 @@ use Rattle.st_il.specs.declared.value.Value.{Value}
 use Rattle.st_il.specs.declared.value.Value.TheVariants as value
 use Rattle.st_semantics.specs.declared.outcome.Outcome.{Outcome}
 use Rattle.st_semantics.specs.declared.outcome.Outcome.TheVariants as outcome
-use Rattle.st_semantics.specs.Names.{Name, all_known}
+use Rattle.st_il.specs.Names.{Name, all_known}
 use Rattle.st_semantics.specs.Variables.{vars}
 use Rattle.st_semantics.specs.Calls.{ValueAt}
 use Rattle.st_semantics.specs.Laws.{CallsAreSingle}

@@ -15,8 +15,8 @@ use Rattle.st_il.specs.declared.value.Env.{Env}
 use Rattle.st_il.specs.declared.value.Value.{Value}
 use Rattle.st_semantics.specs.declared.outcome.Outcome.{Outcome}
 use Rattle.st_semantics.specs.declared.outcome.Outcome.TheVariants.{NoValue}
-use Rattle.st_semantics.specs.Names.{Name, has_name}
-use Rattle.st_semantics.specs.Definitions.{syntaxes, clauses_in, clauses_from}
+use Rattle.st_il.specs.Names.{Name, has_name}
+use Rattle.st_il.specs.Definitions.{syntaxes, clauses_in, clauses_from}
 use Rattle.st_semantics.specs.Environments.{names_of, value_in, type_of, listed_names, AgreeOn, TypedIn, IsSomeTyped}
 use Rattle.st_semantics.specs.Evaluation.{Answers, tasks}
 use Rattle.st_semantics.specs.Variables.{vars, vars_of}

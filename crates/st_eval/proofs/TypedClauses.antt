@@ -15,8 +15,8 @@ use Rattle.st_il.specs.declared.definition.Listed.{Listed}
 use Rattle.st_il.specs.declared.expression.IlExp.{IlExp}
 use Rattle.st_il.specs.declared.expression.IlPrem.{IlPrem}
 use Rattle.st_il.specs.declared.type_rule.TypeRule.{TypeRule}
-use Rattle.st_semantics.specs.Names.{Name, has_name, all_known, flattened}
-use Rattle.st_semantics.specs.Definitions.{syntaxes, clauses_in}
+use Rattle.st_il.specs.Names.{Name, has_name, all_known, flattened}
+use Rattle.st_il.specs.Definitions.{syntaxes, clauses_in}
 use Rattle.st_semantics.specs.Environments.{listed_as, listed_names}
 use Rattle.st_semantics.specs.Executable.{class_of}
 use Rattle.st_semantics.specs.Formed.{PremIsFormed}

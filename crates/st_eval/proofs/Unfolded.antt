@@ -20,8 +20,8 @@ use Rattle.st_il.specs.declared.value.Env.{Env}
 use Rattle.st_il.specs.declared.value.Value.{Value}
 use Rattle.st_il.specs.declared.value.Value.TheVariants as value
 use Rattle.st_semantics.specs.declared.outcome.Outcome.TheVariants.{Val, Deep}
-use Rattle.st_semantics.specs.Names.{Name, has_name, all_known, among, without}
-use Rattle.st_semantics.specs.Definitions.{syntaxes}
+use Rattle.st_il.specs.Names.{Name, has_name, all_known, among, without}
+use Rattle.st_il.specs.Definitions.{syntaxes}
 use Rattle.st_semantics.specs.Environments.{value_in, type_of, listed_names, AgreeOn, TypedIn, IsSomeTyped, names_of, listed_as}
 use Rattle.st_semantics.specs.Parts.{natural, natural_of, number_at}
 use Rattle.st_semantics.specs.Forms.{form_at, Variable, by_itself}

@@ -9,7 +9,7 @@ use Rattle.st_il.specs.declared.value.Env.{Env}
 use Rattle.st_il.specs.declared.value.Value.{Value, out-Value}
 use Rattle.st_il.specs.declared.value.Value.TheOpen.{Value-F}
 use Rattle.st_il.specs.declared.value.Value.TheVariants as value
-use Rattle.st_semantics.specs.Names.{Name, has_name, among}
+use Rattle.st_il.specs.Names.{Name, has_name, among}
 use Rattle.st_semantics.specs.Environments.{Entry, lookup, value_in, AgreeOn}
 use Rattle.st_semantics.specs.Parts.{option_at}
 use Rattle.st_semantics.specs.Iterations.{index_of, kind_of, may_be, Column, column_of, before, columns, all_long, size_of, first_length, heads, tails, bound_to, rows, Over, spread, spread_rows, spread_long}

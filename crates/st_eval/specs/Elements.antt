@@ -13,8 +13,8 @@ use Rattle.st_il.specs.declared.value.Value.{Value}
 use Rattle.st_il.specs.declared.value.Value.TheVariants as value
 use Rattle.st_semantics.specs.declared.outcome.Outcome.TheVariants.{Val, NoValue, Deep}
 use Rattle.st_semantics.specs.declared.outcome.Outcomes.TheVariants.{Stopped}
-use Rattle.st_semantics.specs.Names.{Name, has_name, all_known, among}
-use Rattle.st_semantics.specs.Definitions.{syntaxes}
+use Rattle.st_il.specs.Names.{Name, has_name, all_known, among}
+use Rattle.st_il.specs.Definitions.{syntaxes}
 use Rattle.st_semantics.specs.Environments.{names_of, value_in, type_of, listed_as, listed_names, AgreeOn, IsTypedValue, IsSomeTyped}
 use Rattle.st_semantics.specs.Iterations.{count_of, index_of, spread, Misfit, Over, gathered}
 use Rattle.st_semantics.specs.Scopes.{listed_inside}

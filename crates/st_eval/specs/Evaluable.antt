@@ -4,7 +4,7 @@ use Rattle.st_il.specs.declared.definition.ClauseDef.{ClauseDef}
 use Rattle.st_il.specs.declared.definition.Il.{Il}
 use Rattle.st_il.specs.declared.definition.SyntaxDef.{SyntaxDef}
 use Rattle.st_il.specs.declared.expression.IlPrem.{IlPrem}
-use Rattle.st_semantics.specs.Definitions.{syntaxes, clauses_in}
+use Rattle.st_il.specs.Definitions.{syntaxes, clauses_in}
 use Rattle.st_semantics.specs.Formed.{IsFormed, AreFormed}
 use Rattle.st_semantics.specs.ModeRules.{bound_in_clause}
 use Rattle.st_semantics.specs.Laws.{CallsAreSingle}

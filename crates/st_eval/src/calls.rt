@@ -4,7 +4,7 @@
 //! recurses over calls.
 
 ghost use Rattle.std.specs.Prelude.{IfOk};
-ghost use Rattle.st_semantics.specs.Definitions.{syntaxes};
+ghost use Rattle.st_il.specs.Definitions.{syntaxes};
 ghost use Rattle.st_semantics.specs.Formed.{IsFormed};
 ghost use Rattle.st_semantics.specs.Calls.{CallAt, ValueAt};
 ghost use Rattle.st_eval.specs.Evaluable.{IsEvaluable};

@@ -2,7 +2,7 @@
 
 ghost use Rattle.std.specs.Prelude.{◌≡◌, [], ◌∷◌, List, All, IfOk, bytes_eq};
 ghost use Rattle.st_il.specs.declared.value.Value.{Value};
-ghost use Rattle.st_semantics.specs.Definitions.{clauses_in, clauses_from, clauses_of};
+ghost use Rattle.st_il.specs.Definitions.{clauses_in, clauses_from, clauses_of};
 ghost use Rattle.st_semantics.specs.Calls.{CallAt, Decides};
 ghost use Rattle.st_semantics.specs.ModeRules.{bound_in_clause};
 ghost use Rattle.st_eval.specs.Steps.{HasOnly, IsMetUpTo};

@@ -6,7 +6,7 @@ ghost use Rattle.st_il.specs.declared.definition.Il.{Il};
 ghost use Rattle.st_il.specs.declared.definition.Listed.{Listed};
 ghost use Rattle.st_il.specs.declared.expression.IlExp.{IlExp};
 ghost use Rattle.st_il.specs.declared.ty.Ty.{Ty};
-ghost use Rattle.st_semantics.specs.Definitions.{syntaxes};
+ghost use Rattle.st_il.specs.Definitions.{syntaxes};
 ghost use Rattle.st_semantics.specs.Formed.{IsFormed};
 ghost use Rattle.st_semantics.specs.Breaches.{ClausesKeep};
 ghost use Rattle.st_ilcheck.specs.Typed.{Typed};

@@ -1,7 +1,7 @@
 //! The variables as they are listed inside an iteration.
 
 ghost use Rattle.std.specs.Prelude.{◌≡◌, ◌++◌, IfOk, if◌then◌else◌};
-ghost use Rattle.st_semantics.specs.Names.{has_name};
+ghost use Rattle.st_il.specs.Names.{has_name};
 ghost use Rattle.st_semantics.specs.Iterations.{index_of};
 ghost use Rattle.st_semantics.specs.Scopes.{inner, stepped, stepped_all, indices, listed_inside};
 

@@ -6,7 +6,7 @@
 ghost use Rattle.std.specs.Prelude.{◌≡◌, ◌++◌, ◌<◌, ◌^◌, List, IfOk, MatchOption};
 ghost use Rattle.st_il.specs.declared.expression.IlPrem.{IlPrem, out-IlPrem};
 ghost use Rattle.st_il.specs.declared.expression.IlPrem.TheOpen.{IlPrem-F};
-ghost use Rattle.st_semantics.specs.Names.{Name};
+ghost use Rattle.st_il.specs.Names.{Name};
 ghost use Rattle.st_semantics.specs.Iterations.{index_of, spread, rows, Misfit, Over};
 ghost use Rattle.st_match.specs.inner.Scope.{scope_env, entries_of, columns_now};
 ghost use Rattle.st_eval.specs.Steps.{HasOnly};

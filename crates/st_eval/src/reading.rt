@@ -1,7 +1,7 @@
 //! What expressions come to where a premise is met.
 
 ghost use Rattle.std.specs.Prelude.{IfOk};
-ghost use Rattle.st_semantics.specs.Definitions.{syntaxes};
+ghost use Rattle.st_il.specs.Definitions.{syntaxes};
 ghost use Rattle.st_semantics.specs.Formed.{IsFormed};
 ghost use Rattle.st_semantics.specs.Calls.{ValueAt};
 ghost use Rattle.st_eval.specs.Setting.{IsSetting, AnswersCalls};

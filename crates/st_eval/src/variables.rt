@@ -2,7 +2,7 @@
 
 ghost use Rattle.std.specs.Prelude.{◌≡◌, ◌++◌, List, IfOk};
 ghost use Rattle.st_il.specs.declared.definition.SyntaxDef.{SyntaxDef};
-ghost use Rattle.st_semantics.specs.Names.{without};
+ghost use Rattle.st_il.specs.Names.{without};
 ghost use Rattle.st_semantics.specs.Formed.{IsFormed, AreFormed};
 ghost use Rattle.st_semantics.specs.Iterations.{count_of, index_of};
 ghost use Rattle.st_semantics.specs.Variables.{vars, vars_of};

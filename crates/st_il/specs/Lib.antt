@@ -18,6 +18,10 @@ pub mod Tags
 pub mod Key
 -- a name occurs as a variable in an expression or a premise
 pub mod Occurrences
+-- a name is among others, and the least of some
+pub mod Names
+-- the definitions of a name, and the first of some members of which a fact holds
+pub mod Definitions
 -- a small specification means this internal language
 pub mod Small
 -- ---- what only proofs need

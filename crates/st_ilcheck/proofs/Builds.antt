@@ -13,8 +13,8 @@ use Rattle.st_il.specs.declared.expression.Iteration.{Iteration}
 use Rattle.st_il.specs.declared.ty.Ty.{Ty}
 use Rattle.st_il.specs.declared.type_rule.TypeRule.{TypeRule}
 use Rattle.st_il.specs.declared.type_rule.TypeRule.TheVariants.{T11, T14}
-use Rattle.st_semantics.specs.Names.{Name}
-use Rattle.st_semantics.specs.Definitions.{syntaxes}
+use Rattle.st_il.specs.Names.{Name}
+use Rattle.st_il.specs.Definitions.{syntaxes}
 use Rattle.st_semantics.specs.Iterations.{count_of}
 use Rattle.st_semantics.specs.Operands.{operands_at, item_exp, segment_exps}
 use Rattle.st_semantics.specs.OperationTypes.{Level}

@@ -7,7 +7,7 @@ use Rattle.st_il.specs.declared.definition.Listed.{Listed}
 use Rattle.st_il.specs.declared.definition.RuleDef.{RuleDef}
 use Rattle.st_il.specs.declared.expression.IlPrem.{IlPrem}
 use Rattle.st_il.specs.declared.ty.Ty.{Ty}
-use Rattle.st_semantics.specs.Names.{Name, flattened}
+use Rattle.st_il.specs.Names.{Name, flattened}
 use Rattle.st_semantics.specs.Variables.{relations_cited}
 use Rattle.st_ilcheck.specs.declared.cited.Citations.{Citations}
 use Rattle.st_ilcheck.specs.declared.contents.Contents.{Contents}

@@ -11,7 +11,7 @@ use Rattle.st_il.specs.declared.expression.Iteration.{Iteration, out-Iteration, 
 use Rattle.st_il.specs.declared.expression.ListItem.{ListItem, out-ListItem, fold-ListItem, fold_out-ListItem, map-ListItem}
 use Rattle.st_il.specs.declared.expression.PathSeg.{PathSeg, out-PathSeg, fold-PathSeg, fold_out-PathSeg, map-PathSeg}
 use Rattle.st_type_table.specs.Leads.{names_in}
-use Rattle.st_semantics.specs.Names.{Name, flattened}
+use Rattle.st_il.specs.Names.{Name, flattened}
 use Rattle.st_semantics.specs.Iterations.{count_of, index_of, kind_of, count_at, index_at, kind_at}
 use Rattle.st_semantics.specs.Operands.{operands_at, item_at, segment_at, item_exp, segment_exps}
 use Rattle.st_semantics.specs.OperationTypes.{Level}

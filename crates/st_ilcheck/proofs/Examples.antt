@@ -17,7 +17,7 @@ use Rattle.st_type_table.specs.Meaning.{Means, itself, aliased, named_at}
 use Rattle.st_type_table.specs.Same as same
 use Rattle.st_type_table.specs.Same.{Same}
 use Rattle.st_type_table.proofs.MeansLemmas.{Means-single}
-use Rattle.st_semantics.specs.Definitions.{syntaxes}
+use Rattle.st_il.specs.Definitions.{syntaxes}
 use Rattle.st_semantics.specs.Environments.{wrapped}
 use Rattle.st_semantics.specs.Iterations.{count_of, count_at, kind_of, kind_at}
 use Rattle.st_semantics.specs.OperationTypes.{Level}

@@ -3,7 +3,7 @@ use Rattle.std.proofs.Common.{◌≡◌, ℕ, ◌+◌, ◌<◌, ◌≤◌, refl,
 use Rattle.std.specs.Prelude.{not}
 use Rattle.std.proofs.lemmas.List.{drop_all}
 use Rattle.st_num.specs.declared.dim.Kind.{Kind}
-use Rattle.st_semantics.specs.Names.{Name, has_name}
+use Rattle.st_il.specs.Names.{Name, has_name}
 use Rattle.st_ilcheck.specs.Variables.{Occurrence, deeper, inside}
 use Rattle.st_ilcheck.proofs.Drops.{from}
 

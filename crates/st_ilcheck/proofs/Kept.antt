@@ -9,8 +9,8 @@ use Rattle.st_il.specs.declared.ty.Ty.{Ty}
 use Rattle.st_type_table.specs.Cases.{HasFields, operands_of}
 use Rattle.st_type_table.proofs.CasesLemmas.{HasCases-single, HasFields-single}
 use Rattle.st_type_table.specs.inner.TypedLevels.{HasOperands}
-use Rattle.st_semantics.specs.Names.{Name}
-use Rattle.st_semantics.specs.Definitions.{syntaxes, relation_named}
+use Rattle.st_il.specs.Names.{Name}
+use Rattle.st_il.specs.Definitions.{syntaxes, relation_named}
 use Rattle.st_semantics.specs.Typing.{function_named}
 use Rattle.st_ilcheck.specs.Rules.{Is, Are, AreEach, IsCaseOf, IsRecordOf, IsCallOf}
 use Rattle.st_ilcheck.specs.Premises.{IsJudgementOf}

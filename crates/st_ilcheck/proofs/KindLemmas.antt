@@ -4,7 +4,7 @@ use Rattle.std.specs.Prelude.{IsTrue, All}
 use Rattle.st_num.specs.declared.dim.Kind.{Kind}
 use Rattle.st_il.specs.declared.definition.Listed.{Listed}
 use Rattle.st_semantics.specs.Environments.{listed_as}
-use Rattle.st_semantics.specs.Names.{Name, has_name}
+use Rattle.st_il.specs.Names.{Name, has_name}
 use Rattle.st_ilcheck.specs.Variables.{Occurrence, BeginsWith, IsListed, AreListed, names_of}
 use Rattle.st_ilcheck.specs.inner.Beginnings.{BeginsBy}
 

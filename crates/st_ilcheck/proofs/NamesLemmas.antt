@@ -4,7 +4,7 @@ use Rattle.std.specs.Prelude.{IsTrue, not, bytes_eq}
 use Rattle.std.specs.Borrow.{Bor}
 use Rattle.std.specs.Option.{is_none, is_some, unwrap_or}
 use Rattle.std.proofs.lemmas.List.{map-append, length-append}
-use Rattle.st_semantics.specs.Names.{Name, has_name}
+use Rattle.st_il.specs.Names.{Name, has_name}
 use Rattle.st_ilcheck.specs.Declarations.{times, IsOnceIn}
 use Rattle.st_ilcheck.specs.Index.{at, has_pair}
 use Rattle.st_ilcheck.specs.inner.Names.{names_at, is_single, IsCounted, pairs_at, is_pair, IsKept}

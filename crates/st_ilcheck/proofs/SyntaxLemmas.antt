@@ -12,8 +12,8 @@ use Rattle.st_type_table.specs.Meaning.{body_of}
 use Rattle.st_type_table.specs.Breach.{AllHold, FirstFalse, Finds, FindsAt, Asked, on_body, on_parts, conditions_on}
 use Rattle.st_type_table.specs.inner.Checking.{part_count}
 use Rattle.st_type_table.proofs.PartLemmas.{on_parts-whole}
-use Rattle.st_semantics.specs.Names.{Name, has_name}
-use Rattle.st_semantics.specs.Definitions.{syntaxes, syntaxes_in, rules_in, rules_from}
+use Rattle.st_il.specs.Names.{Name, has_name}
+use Rattle.st_il.specs.Definitions.{syntaxes, syntaxes_in, rules_in, rules_from}
 use Rattle.st_ilcheck.specs.declared.cited.Citations.{Citations}
 use Rattle.st_ilcheck.specs.declared.declaring.Declared.{Declared}
 use Rattle.st_ilcheck.specs.Declarations.{IsDeclared, AreNamed, IsOnceIn, IsTag, rule_names, cited}

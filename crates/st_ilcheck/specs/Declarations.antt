@@ -22,8 +22,8 @@ use Rattle.st_il.specs.declared.ty.Ty.{Ty}
 use Rattle.st_il.specs.Template.{HasTag, holes}
 use Rattle.st_type_table.specs.Breach.{AllHold, conditions_on}
 use Rattle.st_type_table.specs.Leads.{names_in}
-use Rattle.st_semantics.specs.Names.{Name, has_name, flattened}
-use Rattle.st_semantics.specs.Definitions.{syntaxes, syntaxes_in, relations, relations_in, rules_in, rules_from, funs_in}
+use Rattle.st_il.specs.Names.{Name, has_name, flattened}
+use Rattle.st_il.specs.Definitions.{syntaxes, syntaxes_in, relations, relations_in, rules_in, rules_from, funs_in}
 use Rattle.st_semantics.specs.Iterations.{count_of, count_at}
 use Rattle.st_semantics.specs.Operands.{operands_at, item_at, segment_at}
 use Rattle.st_semantics.specs.Variables.{Counted, counted_at, operand_names, called_in, prem_called, relations_cited}

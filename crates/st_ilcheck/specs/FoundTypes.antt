@@ -11,7 +11,7 @@ use Rattle.st_il.specs.declared.ty.Ty.{Ty}
 use Rattle.st_il.specs.declared.ty.Ty.TheVariants as ty
 use Rattle.st_type_table.specs.Cases.{HasFields}
 use Rattle.st_type_table.specs.Meaning.{Means}
-use Rattle.st_semantics.specs.Names.{Name}
+use Rattle.st_il.specs.Names.{Name}
 use Rattle.st_semantics.specs.Environments.{wrapped, type_of, listed_as}
 use Rattle.st_semantics.specs.Iterations.{kind_of}
 use Rattle.st_semantics.specs.OperationTypes.{Level, number_type, field_type}

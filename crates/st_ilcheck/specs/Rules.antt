@@ -17,8 +17,8 @@ use Rattle.st_type_table.specs.Cases.{HasCases, HasFields, operands_of}
 use Rattle.st_type_table.specs.Joins.{Joins}
 use Rattle.st_type_table.specs.Same.{Same}
 use Rattle.st_type_table.specs.Sub.{Sub}
-use Rattle.st_semantics.specs.Names.{Name}
-use Rattle.st_semantics.specs.Definitions.{syntaxes}
+use Rattle.st_il.specs.Names.{Name}
+use Rattle.st_il.specs.Definitions.{syntaxes}
 use Rattle.st_semantics.specs.OperationTypes.{Level, number_type, PathType}
 use Rattle.st_semantics.specs.Typing.{function_named}
 use Rattle.st_ilcheck.specs.FoundTypes.{first_type, last_type, IsFieldOf, IsElementOf}

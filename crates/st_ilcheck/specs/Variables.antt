@@ -6,7 +6,7 @@ use Rattle.st_il.specs.declared.expression.IlExp.{IlExp, fold-IlExp}
 use Rattle.st_il.specs.declared.expression.IlExp.TheOpen.{IlExp-F, Iteration-F}
 use Rattle.st_il.specs.declared.expression.IlPrem.{IlPrem, fold-IlPrem}
 use Rattle.st_il.specs.declared.expression.IlPrem.TheOpen.{IlPrem-F}
-use Rattle.st_semantics.specs.Names.{Name, has_name, flattened}
+use Rattle.st_il.specs.Names.{Name, has_name, flattened}
 use Rattle.st_semantics.specs.Environments.{listed_as, listed_names}
 use Rattle.st_semantics.specs.Operands.{operands_at, item_at, segment_at}
 use Rattle.st_semantics.specs.Iterations.{count_of, index_of, kind_of, count_at, index_at, kind_at}

@@ -3,7 +3,7 @@
 ghost use Rattle.std.specs.Prelude.{◌≡◌, ◌<◌, ◌^◌, ℕ, IfOk, OnOk, Err, Some, length, take, slice_get};
 ghost use Rattle.st_il.specs.declared.definition.IlDef.{IlDef};
 ghost use Rattle.st_il.specs.declared.type_rule.TypeRule.{TypeRule};
-ghost use Rattle.st_semantics.specs.Definitions.{syntaxes};
+ghost use Rattle.st_il.specs.Definitions.{syntaxes};
 ghost use Rattle.st_ilcheck.specs.Typed.{Breaks, BreaksByTypes, Typed, IsTypeBreach};
 ghost use Rattle.st_ilcheck.specs.inner.Declared.{AreDeclared};
 

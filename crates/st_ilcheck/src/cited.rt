@@ -4,7 +4,7 @@ ghost use Rattle.std.specs.Prelude.{◌≡◌, ◌++◌, [], ◌∷◌, ℕ, Lis
 ghost use Rattle.std.specs.List.{flat_map};
 ghost use Rattle.st_il.specs.declared.ty.Ty.{Ty};
 ghost use Rattle.st_type_table.specs.Leads.{names_in};
-ghost use Rattle.st_semantics.specs.Names.{flattened};
+ghost use Rattle.st_il.specs.Names.{flattened};
 ghost use Rattle.st_semantics.specs.Variables.{relations_cited};
 ghost use Rattle.st_ilcheck.specs.Declarations.{types_cited, listed_types, alternative_cited, alternative_tags, body_cited, body_tags};
 ghost use Rattle.st_ilcheck.specs.inner.Cited.{AreCited};

@@ -3,7 +3,7 @@
 ghost use Rattle.std.specs.Prelude.{◌≡◌, ◌++◌, [], ◌∷◌, map, IfOk, OnOk};
 ghost use Rattle.st_il.specs.declared.expression.IlExp.{out-IlExp};
 ghost use Rattle.st_semantics.specs.Iterations.{index_of, kind_of, count_of};
-ghost use Rattle.st_semantics.specs.Names.{has_name};
+ghost use Rattle.st_il.specs.Names.{has_name};
 ghost use Rattle.st_type_table.specs.Leads.{names_in, joined as joined_names};
 ghost use Rattle.st_ilcheck.specs.Variables.{inside};
 ghost use Rattle.st_ilcheck.specs.inner.Contents.{nothing, joined, own_at, within, IsContents, AreContents, IsWithin};

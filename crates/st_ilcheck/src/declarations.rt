@@ -5,7 +5,7 @@ ghost use Rattle.st_il.specs.declared.definition.IlDef.{IlDef};
 ghost use Rattle.st_il.specs.declared.definition.SyntaxDef.{SyntaxDef};
 ghost use Rattle.st_type_table.specs.Breach.{AllHold, conditions_on};
 ghost use Rattle.st_type_table.specs.inner.Checking.{part_count};
-ghost use Rattle.st_semantics.specs.Definitions.{syntaxes, syntaxes_in};
+ghost use Rattle.st_il.specs.Definitions.{syntaxes, syntaxes_in};
 ghost use Rattle.st_ilcheck.specs.Declarations.{IsDeclared, AreNamed, IsOnceIn};
 ghost use Rattle.st_ilcheck.specs.inner.Declared.{AreDeclared};
 ghost use Rattle.st_ilcheck.specs.inner.Cited.{AreCitedOnce, CitesOnce};

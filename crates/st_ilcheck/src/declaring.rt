@@ -1,7 +1,7 @@
 //! The names that definitions declare.
 
 ghost use Rattle.std.specs.Prelude.{◌≡◌, ◌↔◌, false, IsTrue, IfOk};
-ghost use Rattle.st_semantics.specs.Names.{has_name};
+ghost use Rattle.st_il.specs.Names.{has_name};
 ghost use Rattle.st_ilcheck.specs.Declarations.{IsMode};
 ghost use Rattle.st_ilcheck.specs.inner.Declared.{nothing_declared, declaring, AreDeclared, IsNew};
 

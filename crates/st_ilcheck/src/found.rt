@@ -5,7 +5,7 @@ ghost use Rattle.std.specs.Option.{option_copied};
 ghost use Rattle.st_il.specs.declared.definition.FunDef.{FunDef};
 ghost use Rattle.st_il.specs.declared.ty.Ty.{Ty};
 ghost use Rattle.st_il.specs.declared.expression.IlExp.{out-IlExp};
-ghost use Rattle.st_semantics.specs.Definitions.{syntaxes};
+ghost use Rattle.st_il.specs.Definitions.{syntaxes};
 ghost use Rattle.st_semantics.specs.Environments.{wrapped, type_of, listed_as};
 ghost use Rattle.st_semantics.specs.Iterations.{kind_of};
 ghost use Rattle.st_semantics.specs.OperationTypes.{number_type, field_type};

@@ -4,7 +4,7 @@ ghost use Rattle.std.specs.Prelude.{◌≡◌, ◌↔◌, [], ◌∷◌, IsTrue,
 ghost use Rattle.std.specs.Option.{option_copied};
 ghost use Rattle.st_il.specs.declared.expression.IlExp.{out-IlExp};
 ghost use Rattle.st_il.specs.declared.ty.Ty.{Ty};
-ghost use Rattle.st_semantics.specs.Definitions.{syntaxes};
+ghost use Rattle.st_il.specs.Definitions.{syntaxes};
 ghost use Rattle.st_semantics.specs.OperationTypes.{number_type};
 ghost use Rattle.st_ilcheck.specs.FoundTypes.{first_type};
 ghost use Rattle.st_ilcheck.specs.Rules.{behind_first, before_last, Asks, AsksOfPath, rule_of, Are, AllAre, AreEqual, IsList, IsCaseOf, IsRecordOf, IsCallOf};

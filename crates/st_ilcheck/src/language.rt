@@ -70,7 +70,7 @@ impl<'a> Language<'a> {
     ghost use Rattle.st_type_table.specs.Joins.{Joins};
     ghost use Rattle.st_type_table.specs.Same.{Same};
     ghost use Rattle.st_type_table.specs.Sub.{Sub};
-    ghost use Rattle.st_semantics.specs.Definitions.{syntaxes, relation_named};
+    ghost use Rattle.st_il.specs.Definitions.{syntaxes, relation_named};
     ghost use Rattle.st_semantics.specs.Typing.{function_named};
     ghost use Rattle.st_ilcheck.specs.FoundTypes.{IsElementOf};
     ghost use Rattle.st_ilcheck.specs.Rules.{IsListOrOption};

@@ -2,7 +2,7 @@
 
 ghost use Rattle.std.specs.Prelude.{◌≡◌};
 ghost use Rattle.std.specs.Option.{option_copied};
-ghost use Rattle.st_semantics.specs.Names.{has_name};
+ghost use Rattle.st_il.specs.Names.{has_name};
 ghost use Rattle.st_semantics.specs.Environments.{listed_as};
 
 use st_il::Listed;

@@ -76,7 +76,7 @@ impl<'a> Model for Names<'a> {
 
 impl<'a> Names<'a> {
     ghost use Rattle.std.specs.Prelude.{◌≡◌, ◌↔◌, [], ◌∷◌, ◌++◌, IsTrue, OnOk, length};
-    ghost use Rattle.st_semantics.specs.Names.{has_name};
+    ghost use Rattle.st_il.specs.Names.{has_name};
     ghost use Rattle.st_ilcheck.specs.Declarations.{IsOnceIn};
 
     /// No names.

@@ -4,7 +4,7 @@ ghost use Rattle.std.specs.Prelude.{◌≡◌};
 ghost use Rattle.std.specs.List.{list_all};
 ghost use Rattle.std.specs.Option.{option_copied};
 ghost use Rattle.st_il.specs.declared.expression.IlExp.{out-IlExp};
-ghost use Rattle.st_semantics.specs.Names.{has_name};
+ghost use Rattle.st_il.specs.Names.{has_name};
 ghost use Rattle.st_semantics.specs.Iterations.{count_of, index_of};
 ghost use Rattle.st_semantics.specs.Variables.{has_otherwise};
 ghost use Rattle.st_ilcheck.specs.Naming.{has_dimension, goes_over, is_once, is_repeated, is_named, names_exactly, names_kept, each_kept};

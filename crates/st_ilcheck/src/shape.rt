@@ -8,7 +8,7 @@ ghost use Rattle.st_il.specs.declared.ty.Ty.{Ty};
 ghost use Rattle.st_type_table.specs.Joins.{Joins};
 ghost use Rattle.st_type_table.specs.Same.{Same};
 ghost use Rattle.st_type_table.specs.Sub.{Sub};
-ghost use Rattle.st_semantics.specs.Definitions.{syntaxes};
+ghost use Rattle.st_il.specs.Definitions.{syntaxes};
 ghost use Rattle.st_ilcheck.specs.FoundTypes.{IsFieldOf, IsElementOf};
 ghost use Rattle.st_ilcheck.specs.Rules.{Is, AllAre, Are, AreEqual, IsList, IsListOf, AllTyped, AreOrdered, IsMember, AreEach, HasField, LeadsTo, IsSet, IsExtended, AreJoined, IsItem, AreItems, IsBelow};
 ghost use Rattle.st_ilcheck.specs.inner.Steps.{Steps, PlaceAt};

@@ -3,7 +3,7 @@
 ghost use Rattle.std.specs.Prelude.{◌≡◌, ◌↔◌, IsTrue, All, Contains, false, List, ℕ};
 ghost use Rattle.st_num.specs.declared.dim.Kind.{Kind};
 ghost use Rattle.st_il.specs.declared.definition.Listed.{Listed};
-ghost use Rattle.st_semantics.specs.Names.{has_name};
+ghost use Rattle.st_il.specs.Names.{has_name};
 ghost use Rattle.st_semantics.specs.Environments.{listed_names};
 ghost use Rattle.st_ilcheck.specs.Naming.{is_once};
 ghost use Rattle.st_ilcheck.specs.Variables.{IsListed, AreListed, names_of};

@@ -14,7 +14,7 @@ use Rattle.st_il.specs.declared.value.Env.{Env}
 use Rattle.st_il.specs.declared.value.Value.{Value}
 use Rattle.st_il.specs.declared.value.Value.TheVariants as value
 use Rattle.st_semantics.specs.declared.outcome.Outcome.TheVariants.{Val}
-use Rattle.st_semantics.specs.Names.{Name, has_name, without}
+use Rattle.st_il.specs.Names.{Name, has_name, without}
 use Rattle.st_semantics.specs.Environments.{value_in}
 use Rattle.st_semantics.specs.Forms.{Iterates, form_at, by_itself}
 use Rattle.st_semantics.specs.Iterations.{count_of, count_at, index_of, kind_of, Column, columns, size_of, gathered_as}

@@ -15,7 +15,7 @@ use Rattle.st_il.specs.declared.value.Env.{Env}
 use Rattle.st_il.specs.declared.value.Value.{Value, out-Value}
 use Rattle.st_il.specs.declared.value.Value.TheOpen.{Value-F}
 use Rattle.st_il.specs.declared.value.Value.TheVariants as value
-use Rattle.st_semantics.specs.Names.{Name, has_name}
+use Rattle.st_il.specs.Names.{Name, has_name}
 use Rattle.st_semantics.specs.Operands.{item_at, item_exp}
 use Rattle.st_semantics.specs.Forms.{Strict, form_at, by_itself}
 use Rattle.st_semantics.specs.Iterations.{count_of}

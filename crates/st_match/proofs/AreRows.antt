@@ -12,7 +12,7 @@ use Rattle.st_il.specs.declared.value.Value.{Value, out-Value}
 use Rattle.st_il.specs.declared.value.Value.TheOpen.{Value-F}
 use Rattle.st_il.specs.declared.value.Value.TheVariants as value
 use Rattle.st_semantics.specs.declared.outcome.Outcome.TheVariants.{Val}
-use Rattle.st_semantics.specs.Names.{Name, has_name}
+use Rattle.st_il.specs.Names.{Name, has_name}
 use Rattle.st_semantics.specs.Environments.{lookup, value_in}
 use Rattle.st_semantics.specs.Parts.{option_at, option_list}
 use Rattle.st_semantics.specs.Iterations.{kind_of, index_of, column_of, gathered_as}

@@ -7,7 +7,7 @@ use Rattle.st_il.specs.declared.expression.Iteration.{Iteration}
 use Rattle.st_il.specs.declared.expression.ListItem.{ListItem}
 use Rattle.st_il.specs.declared.expression.PathSeg.{PathSeg}
 use Rattle.st_il.specs.declared.ty.Ty.{Ty}
-use Rattle.st_semantics.specs.Names.{Name, has_name, flattened, among, without}
+use Rattle.st_il.specs.Names.{Name, has_name, flattened, among, without}
 use Rattle.st_semantics.specs.Operands.{item_exp}
 use Rattle.st_semantics.specs.Iterations.{count_of, index_of}
 use Rattle.st_semantics.specs.Patterns.{Told, told, told_at, told_item, is_pattern, has_simple_count, binds}

@@ -3,7 +3,7 @@ use Rattle.std.proofs.Common.{◌≡◌, ℕ, ◌+◌, ◌<◌, ◌≤◌, sym, 
 use borrow.Author.Count.{below_more}
 use Rattle.std.proofs.lemmas.List.{take_more, take_all}
 use Rattle.st_il.specs.declared.value.Env.{Env}
-use Rattle.st_semantics.specs.Names.{Name}
+use Rattle.st_il.specs.Names.{Name}
 use Rattle.st_semantics.proofs.Names.{or-cases, or-left, or-right}
 use Rattle.st_match.specs.inner.Covering.{Names, joined, Stands, OneOf, Covers}
 

@@ -9,7 +9,7 @@ use Rattle.st_il.specs.declared.definition.SyntaxDef.{SyntaxDef}
 use Rattle.st_il.specs.declared.expression.IlExp.{IlExp}
 use Rattle.st_il.specs.declared.value.Env.{Env}
 use Rattle.st_il.specs.declared.value.Value.{Value}
-use Rattle.st_semantics.specs.Names.{Name, flattened, has_name}
+use Rattle.st_il.specs.Names.{Name, flattened, has_name}
 use Rattle.st_semantics.specs.Environments.{TypedIn, names_of}
 use Rattle.st_semantics.specs.Formed as formed
 use Rattle.st_semantics.specs.Formed.{IsFormed, AreFormed}

@@ -16,7 +16,7 @@ use Rattle.st_il.specs.declared.value.Value.TheVariants as value
 use Rattle.st_type_table.specs.Cases.{HasFields}
 use Rattle.st_semantics.specs.declared.outcome.Outcome.TheVariants.{Val}
 use Rattle.st_semantics.specs.declared.outcome.Outcome.{Outcome}
-use Rattle.st_semantics.specs.Names.{Name}
+use Rattle.st_il.specs.Names.{Name}
 use Rattle.st_semantics.specs.Environments.{value_in}
 use Rattle.st_semantics.specs.Parts.{Operation, elements, limited, unary, binary, unchanged, with_both}
 use Rattle.st_semantics.specs.Operators.{concatenation}

@@ -13,7 +13,7 @@ use Rattle.st_il.specs.declared.value.Value.{Value}
 use Rattle.st_il.specs.Order.{text_cmp}
 use Rattle.st_semantics.specs.declared.outcome.Outcome.{Outcome}
 use Rattle.st_semantics.specs.declared.outcome.Outcome.TheVariants.{Val, NoValue, Deep}
-use Rattle.st_semantics.specs.Names.{Name, flattened, has_name, all_known}
+use Rattle.st_il.specs.Names.{Name, flattened, has_name, all_known}
 use Rattle.st_semantics.specs.Environments.{Entry, value_in, names_of}
 use Rattle.st_semantics.specs.Evaluation.{Gives}
 use Rattle.st_semantics.specs.Matching.{no_answers}

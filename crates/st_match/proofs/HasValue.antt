@@ -2,7 +2,7 @@
 use Rattle.std.proofs.Common.{◌≡◌, refl, sym, ◌∙◌, ap, [], ◌∷◌, inl, inr, Bool, true, false, ◌||◌, if◌then◌else◌, Some, bytes_eq}
 use Rattle.st_il.specs.declared.value.Env.{Env}
 use Rattle.st_il.specs.declared.value.Value.{Value}
-use Rattle.st_semantics.specs.Names.{Name, has_name}
+use Rattle.st_il.specs.Names.{Name, has_name}
 use Rattle.st_semantics.specs.Environments.{lookup, value_in}
 use Rattle.st_semantics.proofs.Names.{bytes-path, or-cases}
 use Rattle.st_match.specs.inner.Fitting.{HasValue}

@@ -3,7 +3,7 @@ use Rattle.std.proofs.Common.{◌≡◌, ℕ, zero, suc, ◌+◌, ◌<◌, refl,
 use Rattle.std.specs.Prelude.{slice_get, pos}
 use Rattle.st_il.specs.declared.value.Value.{Value}
 use Rattle.st_il.specs.declared.value.Value.TheVariants as value
-use Rattle.st_semantics.specs.Names.{Name}
+use Rattle.st_il.specs.Names.{Name}
 use Rattle.st_semantics.specs.Environments.{Entry}
 use Rattle.st_semantics.specs.Parts.{option_list}
 use Rattle.st_semantics.specs.Iterations.{Column, heads, bound_to, counted_to}

@@ -5,7 +5,7 @@ use Rattle.std.specs.declared.cmp.Ordering.TheVariants as order
 use Rattle.std.proofs.lemmas.List.{take-append-drop, take_more, take_all, drop_more, drop_all}
 use Rattle.std.proofs.lemmas.List.Folds.{list_any-append}
 use Rattle.st_il.specs.Order.{text_cmp}
-use Rattle.st_semantics.specs.Names.{Name, has_name}
+use Rattle.st_il.specs.Names.{Name, has_name}
 use Rattle.st_semantics.specs.inner.Sorted.{AreSorted}
 use Rattle.st_semantics.proofs.Names.{bytes-same, bytes-path, or-left, or-right, or-cases, within-cases, within-left, within-right}
 use Rattle.st_semantics.proofs.InOrder.{IsBefore, before-trans, before-greater, names_equal}

@@ -4,7 +4,7 @@ use Rattle.st_il.specs.declared.value.Value.{Value, out-Value, roll-Value, out-r
 use Rattle.st_il.specs.declared.value.Value.TheOpen.{Value-F}
 use Rattle.st_il.specs.declared.value.Value.TheVariants as value
 use Rattle.st_il.proofs.Induction.{Every, OfField, Parts, value-ind}
-use Rattle.st_semantics.specs.Names.{Name}
+use Rattle.st_il.specs.Names.{Name}
 use Rattle.st_semantics.specs.Environments.{Entry}
 use Rattle.st_semantics.specs.Parts.{option_list, with_both}
 use Rattle.st_semantics.specs.Operators.{Joining, joined_options, joined_fields, values_of, joined_by, joining_at, join}

@@ -5,7 +5,7 @@ use Rattle.std.proofs.lemmas.List.{drop_all}
 use Rattle.std.proofs.Math.Seq.{take-suc}
 use Rattle.st_il.specs.declared.expression.PathSeg.{PathSeg, out-PathSeg}
 use Rattle.st_il.specs.declared.value.Value.{Value}
-use Rattle.st_semantics.specs.Names.{Name}
+use Rattle.st_il.specs.Names.{Name}
 use Rattle.st_semantics.specs.Environments.{Entry}
 use Rattle.st_semantics.specs.Paths.{Step, Path, longer, step_at, path_of, Replaces, in_field}
 use Rattle.st_match.specs.declared.path.Stride.{Stride}

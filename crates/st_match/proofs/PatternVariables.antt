@@ -6,7 +6,7 @@ use Rattle.st_il.specs.declared.expression.IlExp.TheVariants as exp
 use Rattle.st_il.specs.declared.expression.Iteration.{Iteration}
 use Rattle.st_il.specs.declared.expression.ListItem.{ListItem}
 use Rattle.st_il.specs.declared.ty.Ty.{Ty}
-use Rattle.st_semantics.specs.Names.{Name, without}
+use Rattle.st_il.specs.Names.{Name, without}
 use Rattle.st_semantics.specs.Operands.{item_exp}
 use Rattle.st_semantics.specs.Forms.{Strict, Iterates, form_at, by_itself}
 use Rattle.st_semantics.specs.Iterations.{count_of, index_of}

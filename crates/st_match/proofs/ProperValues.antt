@@ -9,7 +9,7 @@ use Rattle.st_num.specs.Texts.{IsText}
 use Rattle.st_il.specs.declared.value.Value.{Value, out-Value, map-Value}
 use Rattle.st_il.specs.declared.value.Value.TheOpen.{Value-F}
 use Rattle.st_il.specs.Value.{texts_of, texts_at, joined, field_texts}
-use Rattle.st_semantics.specs.Names.{Name, flattened}
+use Rattle.st_il.specs.Names.{Name, flattened}
 use Rattle.st_semantics.specs.Environments.{numbers_of, numbers_at}
 use Rattle.st_semantics.proofs.TypedParts.{texts-level, numbers-level}
 use Rattle.st_match.specs.inner.Proper.{IsProper, AreProper, FieldsAreProper, ProperAt}

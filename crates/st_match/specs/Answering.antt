@@ -4,7 +4,7 @@ use Rattle.std.specs.Borrow.{Bor}
 use Rattle.st_num.specs.declared.memory.NoMemory.{NoMemory}
 use Rattle.st_il.specs.declared.value.Value.{Value}
 use Rattle.st_semantics.specs.declared.outcome.Outcome.{Outcome}
-use Rattle.st_semantics.specs.Names.{Name}
+use Rattle.st_il.specs.Names.{Name}
 use Rattle.st_semantics.specs.Evaluation.{Answers}
 
 -- Called with a reference to the function's name, and with the arguments, a closure may return this

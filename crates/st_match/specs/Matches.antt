@@ -5,7 +5,7 @@ use Rattle.st_il.specs.declared.definition.SyntaxDef.{SyntaxDef}
 use Rattle.st_il.specs.declared.expression.IlExp.{IlExp}
 use Rattle.st_il.specs.declared.value.Env.{Env}
 use Rattle.st_il.specs.declared.value.Value.{Value}
-use Rattle.st_semantics.specs.Names.{Name, has_name}
+use Rattle.st_il.specs.Names.{Name, has_name}
 use Rattle.st_semantics.specs.Environments.{TypedIn, names_of, IsOrdered}
 use Rattle.st_semantics.specs.Evaluation.{tasks}
 use Rattle.st_semantics.specs.Variables.{vars_of}

@@ -2,7 +2,7 @@
 
 ghost use Rattle.std.specs.Prelude.{◌≡◌, ◌++◌, IfOk, [], ◌∷◌};
 ghost use Rattle.std.specs.Option.{option_copied};
-ghost use Rattle.st_semantics.specs.Names.{has_name};
+ghost use Rattle.st_il.specs.Names.{has_name};
 ghost use Rattle.st_semantics.specs.Environments.{value_in};
 ghost use Rattle.st_match.specs.inner.Fitting.{HasValue};
 ghost use Rattle.st_match.specs.inner.Covering.{Covers, blank};

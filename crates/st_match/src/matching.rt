@@ -2,7 +2,7 @@
 
 ghost use Rattle.std.specs.Prelude.{◌≡◌, ◌↔◌, ◌++◌, true, map, IsTrue, IfOk};
 ghost use Rattle.std.specs.List.{list_all};
-ghost use Rattle.st_semantics.specs.Names.{flattened, all_known};
+ghost use Rattle.st_il.specs.Names.{flattened, all_known};
 ghost use Rattle.st_semantics.specs.Environments.{names_of};
 ghost use Rattle.st_semantics.specs.Formed.{IsFormed, AreFormed};
 ghost use Rattle.st_semantics.specs.Patterns.{is_pattern, binds, bound_by};

@@ -2,7 +2,7 @@
 
 ghost use Rattle.std.specs.Prelude.{◌≡◌, ◌≤◌, ◌++◌, [], ◌∷◌, true, map, length, take, drop, IfOk, OnOk};
 ghost use Rattle.std.specs.List.{list_all};
-ghost use Rattle.st_semantics.specs.Names.{has_name, without};
+ghost use Rattle.st_il.specs.Names.{has_name, without};
 ghost use Rattle.st_semantics.specs.Environments.{names_of};
 ghost use Rattle.st_semantics.specs.Operands.{item_exp};
 ghost use Rattle.st_semantics.specs.Iterations.{count_of, index_of};

@@ -1,7 +1,7 @@
 //! Rows of environments, one for each element of an iteration, and the columns of their variables.
 
 ghost use Rattle.std.specs.Prelude.{◌≡◌, ◌++◌, IfOk, IfSome, OnOk, [], ◌∷◌, map};
-ghost use Rattle.st_semantics.specs.Names.{has_name};
+ghost use Rattle.st_il.specs.Names.{has_name};
 ghost use Rattle.st_semantics.specs.Iterations.{kind_of, index_of};
 ghost use Rattle.st_match.specs.inner.Fitting.{column_value};
 ghost use Rattle.st_match.specs.inner.Covering.{Covers, IsVariable, IsColumn};

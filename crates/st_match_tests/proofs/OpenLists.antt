@@ -10,7 +10,7 @@ use Rattle.st_il.specs.declared.expression.ListItem.{ListItem, fold-ListItem, fo
 use Rattle.st_il.specs.declared.expression.ListItem.TheVariants as item
 use Rattle.st_il.specs.declared.expression.PathSeg.{PathSeg, fold-PathSeg}
 use Rattle.st_il.specs.declared.ty.Ty.TheVariants as ty
-use Rattle.st_semantics.specs.Names.{Name, has_name, all_known, flattened, among, without}
+use Rattle.st_il.specs.Names.{Name, has_name, all_known, flattened, among, without}
 use Rattle.st_semantics.specs.Operands.{item_at, item_exp, segment_at}
 use Rattle.st_semantics.specs.Forms.{Strict, Variable, Iterates, form_at, listing, by_itself}
 use Rattle.st_semantics.specs.Iterations.{count_of, count_at, index_of, index_at}

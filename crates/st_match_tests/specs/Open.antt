@@ -8,7 +8,7 @@ use Rattle.st_il.specs.declared.expression.Iteration.TheVariants as iteration
 use Rattle.st_il.specs.declared.expression.ListItem.{ListItem}
 use Rattle.st_il.specs.declared.expression.ListItem.TheVariants as item
 use Rattle.st_il.specs.declared.ty.Ty.TheVariants as ty
-use Rattle.st_semantics.specs.Names.{all_known}
+use Rattle.st_il.specs.Names.{all_known}
 use Rattle.st_semantics.specs.Formed.{IsFormed, AreFormed}
 use Rattle.st_semantics.specs.Variables.{vars, vars_of}
 use Rattle.st_semantics.specs.Patterns.{is_pattern, binds, bound_by}

@@ -11,8 +11,8 @@ use Rattle.st_il.specs.declared.definition.RuleDef.{RuleDef}
 use Rattle.st_semantics.specs.declared.unfit.Unfit.{Unfit}
 use Rattle.st_semantics.specs.declared.unfit.Unfit.TheVariants as unfit
 use Rattle.st_semantics.specs.declared.unfit.Unordered.{Unordered}
-use Rattle.st_semantics.specs.Names.{Name}
-use Rattle.st_semantics.specs.Definitions.{rules_in, rules_from, rules_of, IsFirst}
+use Rattle.st_il.specs.Names.{Name}
+use Rattle.st_il.specs.Definitions.{rules_in, rules_from, rules_of, IsFirst}
 use Rattle.st_semantics.specs.Directions.{direction}
 use Rattle.st_semantics.specs.OrderOf.{order_of}
 use Rattle.st_semantics.specs.Marks.{rule_name_of, full_name, IsUnordered, HasOwn}

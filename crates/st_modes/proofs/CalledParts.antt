@@ -3,7 +3,7 @@ use Rattle.std.proofs.Common.{◌≡◌, refl, ◌∙◌, ap, ap₂, List, [], �
 use Rattle.st_il.specs.declared.expression.IlExp.{IlExp, the_lemmas}
 use Rattle.st_il.specs.declared.expression.IlExp.TheVariants as exp
 use Rattle.st_il.specs.declared.expression.PathSeg.{PathSeg}
-use Rattle.st_semantics.specs.Names.{Name, flattened}
+use Rattle.st_il.specs.Names.{Name, flattened}
 use Rattle.st_semantics.specs.Variables.{called}
 use Rattle.st_order.specs.inner.Parts.{called_segment}
 use Rattle.st_order.proofs.VariableParts.{flattened_append, three_parts}

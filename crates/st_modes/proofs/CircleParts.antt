@@ -16,8 +16,8 @@ use Rattle.st_graph.proofs.Positions.{same_position, get-none, get-same, get-fro
 use Rattle.st_il.specs.declared.definition.Il.{Il}
 use Rattle.st_il.specs.declared.definition.IlDef.{IlDef}
 use Rattle.st_il.specs.declared.definition.IlDef.TheVariants as def
-use Rattle.st_semantics.specs.Names.{Name, has_name, flattened}
-use Rattle.st_semantics.specs.Definitions.{rules_in, rules_from, clauses_in, clauses_from}
+use Rattle.st_il.specs.Names.{Name, has_name, flattened}
+use Rattle.st_il.specs.Definitions.{rules_in, rules_from, clauses_in, clauses_from}
 use Rattle.st_semantics.specs.ModeRules.{Citer, Relation, Function, cited_by_rule, cited_by_clause, cited_by, Leads, direct, through as by_way}
 use Rattle.st_modes.specs.declared.citers.Citers.{Citers}
 use Rattle.st_order.specs.inner.Index.{names_in, number_in}

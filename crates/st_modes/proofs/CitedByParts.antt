@@ -8,8 +8,8 @@ use Rattle.st_il.specs.declared.definition.ClauseDef.{ClauseDef}
 use Rattle.st_il.specs.declared.definition.IlDef.{IlDef}
 use Rattle.st_il.specs.declared.definition.IlDef.TheVariants.{Syntax, Var, Relation, Rule, Fun, Clause}
 use Rattle.st_il.specs.declared.definition.RuleDef.{RuleDef}
-use Rattle.st_semantics.specs.Names.{Name, has_name, flattened}
-use Rattle.st_semantics.specs.Definitions.{rules_in, rules_from, clauses_in, clauses_from}
+use Rattle.st_il.specs.Names.{Name, has_name, flattened}
+use Rattle.st_il.specs.Definitions.{rules_in, rules_from, clauses_in, clauses_from}
 use Rattle.st_order.specs.Known.{at}
 use Rattle.st_order.specs.inner.Index.{names_in}
 use Rattle.st_modes.specs.inner.Citing.{functions_in_clause}

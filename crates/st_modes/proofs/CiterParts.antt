@@ -9,7 +9,7 @@ use Rattle.st_il.specs.declared.definition.ClauseDef.{ClauseDef}
 use Rattle.st_il.specs.declared.definition.IlDef.{IlDef}
 use Rattle.st_il.specs.declared.definition.IlDef.TheVariants as def
 use Rattle.st_il.specs.declared.definition.RuleDef.{RuleDef}
-use Rattle.st_semantics.specs.Names.{Name, has_name}
+use Rattle.st_il.specs.Names.{Name, has_name}
 use Rattle.st_modes.specs.declared.citers.Citers.{Citers}
 use Rattle.st_order.specs.inner.Index.{names_in, SameNames}
 use Rattle.st_modes.specs.inner.Circles.{knows, KnowsAll}

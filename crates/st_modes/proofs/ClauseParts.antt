@@ -8,7 +8,7 @@ use Rattle.st_il.specs.declared.definition.ClauseDef.{ClauseDef}
 use Rattle.st_il.specs.declared.definition.Il.{Il}
 use Rattle.st_il.specs.declared.expression.IlExp.{IlExp}
 use Rattle.st_il.specs.declared.expression.IlPrem.{IlPrem}
-use Rattle.st_semantics.specs.Names.{Name, has_name, all_known, flattened}
+use Rattle.st_il.specs.Names.{Name, has_name, all_known, flattened}
 use Rattle.st_semantics.specs.Variables.{vars, vars_of, prems_vars, cites}
 use Rattle.st_semantics.specs.OpenParts.{is_doubly_open}
 use Rattle.st_semantics.specs.Orders.{run_on}

@@ -5,8 +5,8 @@ use Rattle.std.specs.Option.{option_map}
 use Rattle.st_il.specs.declared.definition.IlDef.{IlDef}
 use Rattle.st_il.specs.declared.definition.IlDef.TheVariants as def
 use Rattle.st_il.specs.declared.definition.RelationDef.{RelationDef}
-use Rattle.st_semantics.specs.Names.{Name}
-use Rattle.st_semantics.specs.Definitions.{relations_in}
+use Rattle.st_il.specs.Names.{Name}
+use Rattle.st_il.specs.Definitions.{relations_in}
 use Rattle.st_semantics.specs.Directions.{direction}
 use Rattle.st_modes.specs.inner.Relations.{directed_among, directed_behind}
 use Rattle.st_semantics.proofs.HoleSums.{drop_there}

@@ -6,7 +6,7 @@ use Rattle.std.proofs.lemmas.List.Elements.{All-nil, All-cons, All-head, All-tai
 use Rattle.st_il.specs.declared.definition.IlDef.{IlDef}
 use Rattle.st_il.specs.declared.definition.IlDef.TheVariants as def
 use Rattle.st_il.specs.declared.definition.RuleDef.{RuleDef}
-use Rattle.st_semantics.specs.Definitions.{rules_in}
+use Rattle.st_il.specs.Definitions.{rules_in}
 use Rattle.st_modes.specs.inner.Few.{HasFewPremises, AllHaveFew}
 use Rattle.st_semantics.proofs.HoleSums.{drop_there}
 use Rattle.st_order.proofs.HoleParts.{drop_all}

@@ -9,8 +9,8 @@ use Rattle.st_il.specs.declared.definition.RelationDef.{RelationDef}
 use Rattle.st_il.specs.declared.definition.RuleDef.{RuleDef}
 use Rattle.st_il.specs.declared.definition.SyntaxDef.{SyntaxDef}
 use Rattle.st_il.specs.declared.ty.Ty.{Ty}
-use Rattle.st_semantics.specs.Names.{Name, flattened}
-use Rattle.st_semantics.specs.Definitions.{rules_in, rules_from, clauses_in, clauses_from, funs_in}
+use Rattle.st_il.specs.Names.{Name, flattened}
+use Rattle.st_il.specs.Definitions.{rules_in, rules_from, clauses_in, clauses_from, funs_in}
 use Rattle.st_modes.specs.declared.citations.Citations.{Citations}
 use Rattle.st_order.specs.Known.{all_now, at}
 use Rattle.st_modes.specs.inner.Citing.{functions_in_rule, functions_in_clause}

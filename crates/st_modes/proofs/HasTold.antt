@@ -6,7 +6,7 @@ use Rattle.std.proofs.lemmas.List.Elements.{All-nil, All-head, All-tail, All-pus
 use Rattle.st_il.specs.declared.definition.Il.{Il}
 use Rattle.st_il.specs.declared.definition.RelationDef.{RelationDef}
 use Rattle.st_semantics.specs.declared.unfit.Unfit.{Unfit}
-use Rattle.st_semantics.specs.Definitions.{IsFirst}
+use Rattle.st_il.specs.Definitions.{IsFirst}
 use Rattle.st_semantics.specs.Marks.{HasOwn, IsUnfit, HasUnfit, IsUnordered, LacksClauses}
 use Rattle.st_modes.specs.declared.marking.Own.{Own}
 use Rattle.st_modes.specs.declared.marking.Told.{Told}

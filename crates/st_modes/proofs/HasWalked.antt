@@ -7,7 +7,7 @@ use Rattle.std.specs.List.{list_any}
 use Rattle.std.proofs.lemmas.List.{take-append-le, take_all, length-append}
 use Rattle.std.proofs.lemmas.Slice.Eq.{bytes_eq-Decides}
 use Rattle.indexmap.specs.IndexSet.{insert_key}
-use Rattle.st_semantics.specs.Names.{Name, has_name, without, flattened}
+use Rattle.st_il.specs.Names.{Name, has_name, without, flattened}
 use Rattle.st_order.specs.inner.Index.{names_in, SameNames}
 use Rattle.st_order.specs.Known.{at}
 use Rattle.st_modes.specs.inner.Reaching.{Entries, cited_under, all_cited, Reached, first, next, AreReached, unseen, Grows, HasWalked}

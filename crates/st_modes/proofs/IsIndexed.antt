@@ -4,8 +4,8 @@ use Rattle.st_il.specs.declared.definition.FunDef.{FunDef}
 use Rattle.st_il.specs.declared.definition.Il.{Il}
 use Rattle.st_il.specs.declared.definition.IlDef.{IlDef}
 use Rattle.std.specs.Borrow.{Bor}
-use Rattle.st_semantics.specs.Names.{Name}
-use Rattle.st_semantics.specs.Definitions.{funs_in, clauses_of}
+use Rattle.st_il.specs.Names.{Name}
+use Rattle.st_il.specs.Definitions.{funs_in, clauses_of}
 use Rattle.st_modes.specs.declared.citations.Citations.{Citations}
 use Rattle.st_modes.specs.declared.indexed.Indexed.{Indexed}
 use Rattle.st_order.specs.Modes.{HasFew}

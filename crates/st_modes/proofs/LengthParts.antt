@@ -4,7 +4,7 @@ use Rattle.std.proofs.lemmas.List.Folds.{list_any-append}
 use Rattle.st_il.specs.declared.expression.IlExp.{IlExp, the_lemmas}
 use Rattle.st_il.specs.declared.expression.IlExp.TheVariants as exp
 use Rattle.st_il.specs.declared.expression.PathSeg.{PathSeg}
-use Rattle.st_semantics.specs.Names.{flattened}
+use Rattle.st_il.specs.Names.{flattened}
 use Rattle.st_semantics.specs.OpenParts.{Lengths, any_doubly_open, is_doubly_open}
 use Rattle.st_modes.specs.inner.Lengths.{lengths, any_step_doubly_open, segment_lengths}
 

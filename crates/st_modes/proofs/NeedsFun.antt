@@ -11,8 +11,8 @@ use Rattle.st_il.specs.declared.definition.Il.{Il}
 use Rattle.st_il.specs.declared.definition.RelationDef.{RelationDef}
 use Rattle.st_il.specs.declared.definition.RuleDef.{RuleDef}
 use Rattle.st_semantics.specs.declared.unfit.Unfit.TheVariants as unfit
-use Rattle.st_semantics.specs.Names.{Name, has_name, flattened}
-use Rattle.st_semantics.specs.Definitions.{relations, rules_of, clauses_of}
+use Rattle.st_il.specs.Names.{Name, has_name, flattened}
+use Rattle.st_il.specs.Definitions.{relations, rules_of, clauses_of}
 use Rattle.st_semantics.specs.Variables.{relations_cited}
 use Rattle.st_semantics.specs.ModeRules.{Citer, Relation, Function, cited_by, cited_by_rule, cited_by_clause}
 use Rattle.st_semantics.specs.Marks.{NeedsFun, NeedsRelation, LacksClauses, IsUnfit, NeedsUnfit}

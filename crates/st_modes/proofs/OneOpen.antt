@@ -7,7 +7,7 @@ use Rattle.st_il.specs.declared.expression.IlExp.{IlExp}
 use Rattle.st_il.specs.declared.expression.IlPrem.{IlPrem}
 use Rattle.st_il.specs.declared.expression.IlPrem.TheVariants as prem
 use Rattle.st_il.specs.declared.expression.Iteration.{Iteration}
-use Rattle.st_semantics.specs.Names.{Name, all_known}
+use Rattle.st_il.specs.Names.{Name, all_known}
 use Rattle.st_semantics.specs.Directions.{inputs_by, outputs_by, mask}
 use Rattle.st_semantics.specs.Variables.{vars_of}
 use Rattle.st_semantics.specs.Patterns.{bound_by}

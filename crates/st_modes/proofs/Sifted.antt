@@ -5,8 +5,8 @@ use Rattle.std.specs.Option.{option_map}
 use Rattle.std.proofs.lemmas.List.{length-map}
 use Rattle.std.proofs.lemmas.List.Elements.{All-nil, All-cons}
 use Rattle.std.proofs.lemmas.Option.{slice_get_within, slice_get-map}
-use Rattle.st_semantics.specs.Names.{Name}
-use Rattle.st_semantics.specs.Definitions.{IsFirst}
+use Rattle.st_il.specs.Names.{Name}
+use Rattle.st_il.specs.Definitions.{IsFirst}
 use Rattle.st_order.specs.Known.{all_now}
 use Rattle.st_modes.specs.inner.Sifted.{Sifted, none, kept, left_out}
 use Rattle.st_modes.specs.inner.Targets.{IsLeastOf}

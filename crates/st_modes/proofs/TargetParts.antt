@@ -4,7 +4,7 @@ use Rattle.std.specs.Borrow.{Bor}
 use Rattle.std.specs.Option.{option_copied}
 use Rattle.std.proofs.lemmas.List.{take_all, take_more, take-append-drop, length-map, length-take}
 use Rattle.std.proofs.lemmas.Slice.Eq.{bytes_eq-Decides}
-use Rattle.st_semantics.specs.Names.{Name, has_name}
+use Rattle.st_il.specs.Names.{Name, has_name}
 use Rattle.st_order.specs.Known.{at}
 use Rattle.st_order.specs.inner.Index.{names_in}
 use Rattle.st_modes.specs.inner.Reaching.{Reached, first, next, Grows, HasWalked}

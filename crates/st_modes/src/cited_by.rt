@@ -2,7 +2,7 @@
 
 ghost use Rattle.std.specs.Prelude.{◌≡◌, ◌++◌, ◌∷◌, [], ◌&&◌, ◌||◌, List, ℕ, if◌then◌else◌, bytes_eq, IfOk, OnOk};
 ghost use Rattle.st_il.specs.declared.definition.IlDef.{IlDef};
-ghost use Rattle.st_semantics.specs.Names.{has_name};
+ghost use Rattle.st_il.specs.Names.{has_name};
 ghost use Rattle.st_order.specs.inner.Index.{names_in};
 ghost use Rattle.st_modes.specs.inner.Reaching.{cited_under};
 ghost use Rattle.st_modes.specs.inner.CitedBy.{AreCiting, AreCalling};

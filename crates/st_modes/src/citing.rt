@@ -1,7 +1,7 @@
 //! The functions and relations that rules and clauses cite.
 
 ghost use Rattle.std.specs.Prelude.{◌≡◌, ◌++◌, map, OnOk};
-ghost use Rattle.st_semantics.specs.Names.{flattened};
+ghost use Rattle.st_il.specs.Names.{flattened};
 ghost use Rattle.st_semantics.specs.Iterations.{count_of};
 ghost use Rattle.st_semantics.specs.Variables.{called, called_in, prem_called, relations_cited};
 ghost use Rattle.st_order.specs.inner.Index.{names_in};

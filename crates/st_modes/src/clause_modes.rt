@@ -3,7 +3,7 @@
 ghost use Rattle.std.specs.Prelude.{◌≡◌, [], true, not, IfOk};
 ghost use Rattle.std.specs.List.{list_all};
 ghost use Rattle.st_il.specs.declared.definition.Il.{Il};
-ghost use Rattle.st_semantics.specs.Names.{all_known};
+ghost use Rattle.st_il.specs.Names.{all_known};
 ghost use Rattle.st_semantics.specs.Variables.{vars_of};
 ghost use Rattle.st_semantics.specs.Patterns.{is_pattern, bound_by};
 ghost use Rattle.st_semantics.specs.OpenParts.{is_doubly_open};

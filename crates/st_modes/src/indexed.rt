@@ -4,7 +4,7 @@ ghost use Rattle.std.specs.Prelude.{◌≡◌, ◌++◌, ◌∷◌, [], List, no
 ghost use Rattle.st_il.specs.declared.definition.FunDef.{FunDef};
 ghost use Rattle.st_order.specs.Modes.{HasFew};
 ghost use Rattle.st_order.specs.Known.{all_now, at};
-ghost use Rattle.st_semantics.specs.Names.{Name};
+ghost use Rattle.st_il.specs.Names.{Name};
 ghost use Rattle.st_modes.specs.inner.Citations.{called_by_function};
 ghost use Rattle.st_order.specs.inner.Index.{names_in};
 ghost use Rattle.st_modes.specs.inner.Needs.{IsIndexed};

@@ -3,7 +3,7 @@
 ghost use Rattle.std.specs.Prelude.{◌≡◌, ◌<◌, ◌&&◌, Some, bytes_eq, length, slice_get, map, find, IfOk};
 ghost use Rattle.std.specs.Option.{option_copied};
 ghost use Rattle.st_il.specs.declared.definition.RelationDef.{RelationDef};
-ghost use Rattle.st_semantics.specs.Definitions.{relations};
+ghost use Rattle.st_il.specs.Definitions.{relations};
 ghost use Rattle.st_semantics.specs.Marks.{IsUnfit};
 ghost use Rattle.st_order.specs.inner.Index.{names_in};
 ghost use Rattle.st_order.specs.Known.{all_now};

@@ -5,7 +5,7 @@
 //! each citation is followed once.
 
 ghost use Rattle.std.specs.Prelude.{◌≡◌, ◌≤◌, ◌++◌, ◌∷◌, [], List, ℕ, length, drop, bytes_eq, IfOk, OnOk};
-ghost use Rattle.st_semantics.specs.Names.{Name, has_name};
+ghost use Rattle.st_il.specs.Names.{Name, has_name};
 ghost use Rattle.st_order.specs.Known.{at};
 ghost use Rattle.st_order.specs.inner.Index.{names_in};
 ghost use Rattle.st_modes.specs.inner.Reaching.{cited_under};

@@ -5,7 +5,7 @@ use Rattle.st_il.specs.declared.expression.IlExp.{IlExp, the_lemmas}
 use Rattle.st_il.specs.declared.expression.IlExp.TheVariants as exp
 use Rattle.st_il.specs.declared.expression.PathSeg.{PathSeg}
 use Rattle.st_il.specs.declared.expression.Iteration.{Iteration}
-use Rattle.st_semantics.specs.Names.{Name, flattened, among, without}
+use Rattle.st_il.specs.Names.{Name, flattened, among, without}
 use Rattle.st_semantics.specs.Iterations.{index_of}
 use Rattle.st_semantics.specs.Patterns.{Bound, is_pattern, binds, bound_by}
 use Rattle.st_order.specs.inner.Parts.{exps_in, names_bound, bound_in, bound_segment}

@@ -13,7 +13,7 @@ use Rattle.st_il.specs.declared.definition.RuleDef.{RuleDef}
 use Rattle.st_il.specs.declared.expression.IlExp.{IlExp}
 use Rattle.st_il.specs.declared.expression.IlPrem.{IlPrem}
 use Rattle.st_semantics.specs.declared.unfit.Unordered.{Unordered}
-use Rattle.st_semantics.specs.Names.{Name, all_known, without, least}
+use Rattle.st_il.specs.Names.{Name, all_known, without, least}
 use Rattle.st_semantics.specs.Directions.{mask}
 use Rattle.st_semantics.specs.Variables.{vars, vars_of, prem_vars}
 use Rattle.st_semantics.specs.Patterns.{is_pattern, bound_by}

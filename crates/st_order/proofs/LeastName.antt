@@ -1,7 +1,7 @@
 -- The least of some names, from the last one on.
 use Rattle.std.proofs.Common.{◌≡◌, sym, ◌∙◌, ap, ℕ, ◌+◌, ◌<◌, List, length, get_or, drop, Option}
 use Rattle.std.specs.Borrow.{Bor}
-use Rattle.st_semantics.specs.Names.{Name, lesser, least}
+use Rattle.st_il.specs.Names.{Name, lesser, least}
 use Rattle.st_order.specs.inner.Index.{names_in}
 use Rattle.st_semantics.proofs.HoleSums.{drop_there}
 

@@ -3,7 +3,7 @@ use Rattle.std.proofs.Common.{◌≡◌, refl, sym, ◌∙◌, ap, ℕ, ◌+◌,
 use Rattle.std.specs.List.{enumerate_from}
 use Rattle.st_il.specs.declared.definition.Il.{Il}
 use Rattle.st_il.specs.declared.expression.IlPrem.{IlPrem}
-use Rattle.st_semantics.specs.Names.{Name}
+use Rattle.st_il.specs.Names.{Name}
 use Rattle.st_semantics.specs.Executable.{class_of}
 use Rattle.st_semantics.specs.OrderOf as told
 use Rattle.st_semantics.specs.OrderOf.{but_for}

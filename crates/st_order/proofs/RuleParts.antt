@@ -8,8 +8,8 @@ use Rattle.st_il.specs.declared.definition.IlDef.{IlDef}
 use Rattle.st_il.specs.declared.definition.IlDef.TheVariants.{Syntax, Var, Relation, Rule, Fun, Clause}
 use Rattle.st_il.specs.declared.definition.RelationDef.{RelationDef}
 use Rattle.st_il.specs.declared.definition.RuleDef.{RuleDef}
-use Rattle.st_semantics.specs.Names.{Name}
-use Rattle.st_semantics.specs.Definitions.{relations, relations_in, rules_of, rules_in, rules_from}
+use Rattle.st_il.specs.Names.{Name}
+use Rattle.st_il.specs.Definitions.{relations, relations_in, rules_of, rules_in, rules_from}
 use Rattle.st_order.specs.Answers.{rule_at}
 use Rattle.st_order.specs.Known.{all_now}
 

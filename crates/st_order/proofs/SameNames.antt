@@ -2,7 +2,7 @@
 use Rattle.std.proofs.Common.{◌≡◌, refl, sym, ◌∙◌, ap, ap₂, Bool, ◌&&◌, ◌||◌, not, if◌then◌else◌, ℕ, List, [], ◌∷◌, ◌++◌}
 use Rattle.std.specs.Borrow.{Bor}
 use Rattle.std.specs.List.{list_all, list_any}
-use Rattle.st_semantics.specs.Names.{Name, has_name, all_known, among, without}
+use Rattle.st_il.specs.Names.{Name, has_name, all_known, among, without}
 use Rattle.st_order.specs.inner.Index.{names_in, SameNames}
 use Rattle.st_order.proofs.NamesIn.{has_name_append}
 

@@ -1,7 +1,7 @@
 -- What is taken depends on which names are bound, and on no order of them.
 use Rattle.std.proofs.Common.{◌≡◌, refl, sym, ◌∙◌, ap, ap₂, subst, ℕ, zero, suc, Bool, true, false, if◌then◌else◌, List, [], ◌∷◌, ◌++◌, append_assoc, append-nil, arith, Option, Some, None, find}
 use Rattle.st_il.specs.declared.definition.Il.{Il}
-use Rattle.st_semantics.specs.Names.{Name, has_name}
+use Rattle.st_il.specs.Names.{Name, has_name}
 use Rattle.st_semantics.specs.Variables.{prem_vars}
 use Rattle.st_semantics.specs.Executable as run
 use Rattle.st_semantics.specs.Executable.{Test, Equation, Judgement, class_of}

@@ -9,7 +9,7 @@ use Rattle.st_il.specs.declared.definition.SyntaxDef.{SyntaxDef}
 use Rattle.st_il.specs.declared.ty.Ty.{Ty}
 use Rattle.st_il.specs.declared.ty.Ty.TheVariants as ty
 use Rattle.st_type_table.specs.Same.{Same, SameAll}
-use Rattle.st_semantics.specs.Definitions.{syntaxes}
+use Rattle.st_il.specs.Definitions.{syntaxes}
 use Rattle.st_semantics.specs.Directions.{direction, inputs_by, outputs_by, IsStepping}
 use Rattle.st_order.specs.inner.HolesOf.{is_hole, from_hole, IsNextHole}
 use Rattle.st_order.proofs.HoleParts.{at_holes_next, at_holes_end, drop_all}

@@ -4,7 +4,7 @@ use Rattle.std.specs.Borrow.{Bor}
 use Rattle.st_il.specs.declared.expression.IlExp.{IlExp, the_lemmas}
 use Rattle.st_il.specs.declared.expression.IlExp.TheVariants as exp
 use Rattle.st_il.specs.declared.expression.PathSeg.{PathSeg}
-use Rattle.st_semantics.specs.Names.{Name, flattened}
+use Rattle.st_il.specs.Names.{Name, flattened}
 use Rattle.st_semantics.specs.Variables.{vars, vars_of}
 use Rattle.st_order.specs.inner.Parts.{segment_vars, exps_in}
 use Rattle.st_semantics.proofs.HoleSums.{drop_there}

@@ -5,7 +5,7 @@ use Rattle.std.specs.Result.{result_ok}
 use Rattle.st_il.specs.declared.definition.Il.{Il}
 use Rattle.st_il.specs.declared.definition.RelationDef.{RelationDef}
 use Rattle.st_il.specs.declared.definition.RuleDef.{RuleDef}
-use Rattle.st_semantics.specs.Definitions.{relations, rules_in, rules_of}
+use Rattle.st_il.specs.Definitions.{relations, rules_in, rules_of}
 use Rattle.st_semantics.specs.Directions.{direction}
 use Rattle.st_semantics.specs.OrderOf.{order_of}
 use Rattle.st_semantics.specs.Marks.{HasUnfit}

@@ -1,7 +1,7 @@
 //! The variables that patterns bind.
 
 ghost use Rattle.std.specs.Prelude.{◌≡◌, ◌++◌, [], ◌∷◌, map, OnOk};
-ghost use Rattle.st_semantics.specs.Names.{flattened, among, without};
+ghost use Rattle.st_il.specs.Names.{flattened, among, without};
 ghost use Rattle.st_semantics.specs.Iterations.{index_of};
 ghost use Rattle.st_semantics.specs.Patterns.{binds, bound_by};
 ghost use Rattle.st_order.specs.inner.Index.{names_in};

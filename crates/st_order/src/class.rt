@@ -4,7 +4,7 @@ ghost use Rattle.std.specs.Prelude.{◌≡◌, ◌++◌, IfOk};
 ghost use Rattle.std.specs.List.{list_any, list_all};
 ghost use Rattle.std.specs.Option.{option_map};
 ghost use Rattle.st_il.specs.declared.expression.IlExp.{out-IlExp};
-ghost use Rattle.st_semantics.specs.Names.{all_known};
+ghost use Rattle.st_il.specs.Names.{all_known};
 ghost use Rattle.st_semantics.specs.Iterations.{count_of};
 ghost use Rattle.st_semantics.specs.Variables.{vars, vars_of};
 ghost use Rattle.st_semantics.specs.Patterns.{binds, bound_by};

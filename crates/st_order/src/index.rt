@@ -3,7 +3,7 @@
 ghost use Rattle.std.specs.Prelude.{◌≡◌, ◌<◌, ◌∷◌, ◌++◌, [], List, ℕ, Some, length, bytes_eq, if◌then◌else◌, IfOk, IfSome, OnOk};
 ghost use Rattle.std.specs.Option.{option_copied};
 ghost use Rattle.std.specs.List.{list_any};
-ghost use Rattle.st_semantics.specs.Names.{has_name, all_known, among, without};
+ghost use Rattle.st_il.specs.Names.{has_name, all_known, among, without};
 ghost use Rattle.st_order.specs.inner.Index.{names_in, number_in, SameNames};
 ghost use Rattle.st_order.specs.Known.{at};
 

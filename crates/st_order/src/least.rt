@@ -4,7 +4,7 @@ ghost use Rattle.std.specs.Prelude.{◌≡◌, [], Some, IfOk};
 ghost use Rattle.std.specs.Option.{option_copied};
 ghost use Rattle.std.specs.Ordering.{is_lt};
 ghost use Rattle.st_il.specs.Order.{text_cmp};
-ghost use Rattle.st_semantics.specs.Names.{lesser, least, without};
+ghost use Rattle.st_il.specs.Names.{lesser, least, without};
 ghost use Rattle.st_order.specs.inner.Index.{names_in};
 
 use crate::index::push_unknown;

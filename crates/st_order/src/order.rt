@@ -3,7 +3,7 @@
 ghost use Rattle.std.specs.Prelude.{◌≡◌, ◌<◌, ◌^◌, ◌↔◌, [], length, Some, IfOk, IsTrue};
 ghost use Rattle.std.specs.List.{list_all};
 ghost use Rattle.st_il.specs.declared.definition.RuleDef.{RuleDef};
-ghost use Rattle.st_semantics.specs.Names.{least, without};
+ghost use Rattle.st_il.specs.Names.{least, without};
 ghost use Rattle.st_semantics.specs.Variables.{vars_of, prem_vars};
 ghost use Rattle.st_semantics.specs.Orders.{is_input};
 ghost use Rattle.st_semantics.specs.OrderOf.{order_of};

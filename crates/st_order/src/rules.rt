@@ -2,7 +2,7 @@
 
 ghost use Rattle.std.specs.Prelude.{◌≡◌, ◌++◌, [], ◌∷◌, IfOk, OnOk};
 ghost use Rattle.std.specs.Option.{option_copied};
-ghost use Rattle.st_semantics.specs.Definitions.{relations, relations_in, rules_of, rules_in, rules_from};
+ghost use Rattle.st_il.specs.Definitions.{relations, relations_in, rules_of, rules_in, rules_from};
 ghost use Rattle.st_semantics.specs.Marks.{full_name};
 ghost use Rattle.st_order.specs.Answers.{rule_at};
 ghost use Rattle.st_order.specs.Known.{all_now};

@@ -3,7 +3,7 @@
 ghost use Rattle.std.specs.Prelude.{◌≡◌, ◌↔◌, slice_get, IsTrue};
 ghost use Rattle.st_il.specs.declared.definition.Il.{Il};
 ghost use Rattle.st_type_table.specs.Same.{SameAll};
-ghost use Rattle.st_semantics.specs.Definitions.{syntaxes};
+ghost use Rattle.st_il.specs.Definitions.{syntaxes};
 ghost use Rattle.st_semantics.specs.Directions.{inputs_by, outputs_by, IsStepping};
 ghost use Rattle.st_order.specs.Tagged.{IsTagged};
 ghost use Rattle.st_order.specs.inner.HolesOf.{is_hole, IsNextHole};

@@ -1,7 +1,7 @@
 //! The variables of expressions and premises.
 
 ghost use Rattle.std.specs.Prelude.{◌≡◌, ◌++◌, [], ◌∷◌, map, OnOk};
-ghost use Rattle.st_semantics.specs.Names.{flattened, has_name, without};
+ghost use Rattle.st_il.specs.Names.{flattened, has_name, without};
 ghost use Rattle.st_semantics.specs.Iterations.{count_of, index_of};
 ghost use Rattle.st_semantics.specs.Variables.{vars, vars_of, prem_vars, prems_vars};
 ghost use Rattle.st_order.specs.inner.Index.{names_in};

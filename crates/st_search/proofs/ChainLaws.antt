@@ -3,7 +3,7 @@ use Rattle.std.proofs.Common.{arith, ◌≡◌, refl, ap, ℕ, suc, ◌<◌, ◌
 use Rattle.std.proofs.lemmas.List.Elements.{All-cons, All-nil}
 use Rattle.st_il.specs.declared.definition.Il.{Il}
 use Rattle.st_il.specs.declared.definition.RuleDef.{RuleDef}
-use Rattle.st_semantics.specs.Definitions.{rules_of}
+use Rattle.st_il.specs.Definitions.{rules_of}
 use Rattle.st_semantics.specs.Marks.{full_name}
 use Rattle.st_semantics.specs.Goals.{Goal, IsGoal}
 use Rattle.st_semantics.specs.Chains.{Follows, Linked, last_of, RuleMeets, IsCut, DeepAt}

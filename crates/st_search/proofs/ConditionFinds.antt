@@ -13,8 +13,8 @@ use Rattle.st_il.specs.declared.value.Value.{Value}
 use Rattle.st_il.specs.declared.value.Value.TheVariants as value
 use Rattle.st_semantics.specs.declared.outcome.Outcome.{Outcome}
 use Rattle.st_semantics.specs.declared.outcome.Outcome.TheVariants.{Val, NoValue, Deep}
-use Rattle.st_semantics.specs.Names.{Name, has_name, all_known}
-use Rattle.st_semantics.specs.Definitions.{syntaxes}
+use Rattle.st_il.specs.Names.{Name, has_name, all_known}
+use Rattle.st_il.specs.Definitions.{syntaxes}
 use Rattle.st_semantics.specs.Environments.{AgreeOn}
 use Rattle.st_semantics.specs.Variables.{vars, prem_vars}
 use Rattle.st_semantics.specs.Depth as d

@@ -23,8 +23,8 @@ use Rattle.st_il.proofs.TagTemplates.{is_template}
 use Rattle.st_il.proofs.Tags.{one_template}
 use Rattle.st_type_table.specs.Cases.{HasFields}
 use Rattle.st_type_table.specs.Meaning.{body_of, recorded, named_at}
-use Rattle.st_semantics.specs.Names.{Name}
-use Rattle.st_semantics.specs.Definitions.{syntaxes, syntaxes_in, relations_in, relation_named, rules_in, clauses_in}
+use Rattle.st_il.specs.Names.{Name}
+use Rattle.st_il.specs.Definitions.{syntaxes, syntaxes_in, relations_in, relation_named, rules_in, clauses_in}
 use Rattle.st_semantics.specs.Directions.{is_arrow, direction_at, direction_by, inputs_or_all, mask}
 use Rattle.st_ilcheck.specs.Declarations.{IsTag, IsMode}
 use Rattle.st_ilcheck.specs.Typed.{Typed, AllKeep, Breaks}

@@ -10,8 +10,8 @@ use Rattle.st_il.specs.declared.tree.Child.{Child}
 use Rattle.st_il.specs.declared.tree.Tree.{Tree}
 use Rattle.st_il.specs.declared.value.Env.{Env}
 use Rattle.st_il.specs.declared.value.Value.{Value}
-use Rattle.st_semantics.specs.Names.{Name, has_name}
-use Rattle.st_semantics.specs.Definitions.{syntaxes, rules_in, rules_of, IsRelation}
+use Rattle.st_il.specs.Names.{Name, has_name}
+use Rattle.st_il.specs.Definitions.{syntaxes, rules_in, rules_of, IsRelation}
 use Rattle.st_semantics.specs.Directions.{mask, inputs_by, outputs_by, inputs_of, outputs_of}
 use Rattle.st_semantics.specs.Environments.{EnvOk, listed_in, listed_names}
 use Rattle.st_semantics.specs.Evaluation.{tasks}

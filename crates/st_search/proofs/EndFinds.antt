@@ -8,8 +8,8 @@ use Rattle.st_il.specs.declared.tree.Tree.{Tree}
 use Rattle.st_il.specs.declared.value.Env.{Env}
 use Rattle.st_il.specs.declared.value.Value.{Value}
 use Rattle.st_semantics.specs.declared.outcome.Outcome.TheVariants.{NoValue, Deep}
-use Rattle.st_semantics.specs.Names.{Name}
-use Rattle.st_semantics.specs.Definitions.{rules_in, IsRelation}
+use Rattle.st_il.specs.Names.{Name}
+use Rattle.st_il.specs.Definitions.{rules_in, IsRelation}
 use Rattle.st_semantics.specs.Directions.{mask}
 use Rattle.st_semantics.specs.Environments.{IsOrdered, value_in}
 use Rattle.st_semantics.specs.Evaluation.{tasks}

@@ -3,8 +3,8 @@ use Rattle.std.proofs.Common.{◌≡◌, refl, sym, ◌∙◌, ap, subst, Bool, 
 use Rattle.st_il.specs.declared.definition.Il.{Il}
 use Rattle.st_il.specs.declared.definition.Listed.{Listed}
 use Rattle.st_il.specs.declared.value.Env.{Env}
-use Rattle.st_semantics.specs.Names.{Name, has_name, all_known, without}
-use Rattle.st_semantics.specs.Definitions.{syntaxes}
+use Rattle.st_il.specs.Names.{Name, has_name, all_known, without}
+use Rattle.st_il.specs.Definitions.{syntaxes}
 use Rattle.st_semantics.specs.Environments.{Entry, AgreeOn, TypedIn, IsOrdered, IsSomeTyped, names_of, value_in, type_of, listed_names}
 use Rattle.st_semantics.proofs.Names.{within-cases, within-left, within-right, or-cases, or-left, or-right, known-within, true_false, without-other}
 use Rattle.st_semantics.proofs.Restrict.{restricted, agree_picked}

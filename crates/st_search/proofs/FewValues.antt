@@ -1,7 +1,7 @@
 -- An environment of some variables of another one, of those that have values there.
 use Rattle.std.proofs.Common.{◌≡◌, refl, sym, ◌∙◌, ap₂, subst, true, ◌&&◌, List, [], ◌∷◌, ◌++◌, bytes_eq, inl, inr}
 use Rattle.st_il.specs.declared.value.Env.{Env}
-use Rattle.st_semantics.specs.Names.{Name, has_name, all_known}
+use Rattle.st_il.specs.Names.{Name, has_name, all_known}
 use Rattle.st_semantics.specs.Environments.{Entry, names_of}
 use Rattle.st_semantics.proofs.Names.{Within, within-cases, within-left, within-right, known-within, bytes-same, or-left, or-right}
 use Rattle.st_eval.specs.inner.Beside.{entries_among}

@@ -12,8 +12,8 @@ use Rattle.st_il.specs.declared.tree.Child.{Child}
 use Rattle.st_il.specs.declared.tree.Child.TheVariants as child
 use Rattle.st_il.specs.declared.value.Env.{Env}
 use Rattle.st_il.specs.declared.value.Value.{Value}
-use Rattle.st_semantics.specs.Names.{Name}
-use Rattle.st_semantics.specs.Definitions.{syntaxes, rules_in}
+use Rattle.st_il.specs.Names.{Name}
+use Rattle.st_il.specs.Definitions.{syntaxes, rules_in}
 use Rattle.st_semantics.specs.Directions.{mask, inputs_of, outputs_of}
 use Rattle.st_semantics.specs.Environments.{AgreeOn}
 use Rattle.st_semantics.specs.Evaluation.{tasks}

@@ -10,7 +10,7 @@ use Rattle.st_il.specs.declared.expression.IlExp.TheOpen.{IlExp-F}
 use Rattle.st_il.specs.declared.expression.Iteration.{Iteration}
 use Rattle.st_il.specs.declared.ty.Ty.{Ty}
 use Rattle.st_il.specs.declared.type_rule.TypeRule.{TypeRule}
-use Rattle.st_semantics.specs.Names.{Name, has_name, flattened}
+use Rattle.st_il.specs.Names.{Name, has_name, flattened}
 use Rattle.st_semantics.specs.Iterations.{count_of, index_of, kind_of}
 use Rattle.st_semantics.specs.Kinds.{AreOfItsKind}
 use Rattle.st_semantics.specs.Operands.{operands_at, item_exp, segment_exps}

@@ -5,8 +5,8 @@ use Rattle.st_il.specs.declared.definition.Il.{Il}
 use Rattle.st_il.specs.declared.definition.RuleDef.{RuleDef}
 use Rattle.st_il.specs.declared.definition.SyntaxDef.{SyntaxDef}
 use Rattle.st_il.specs.declared.expression.IlExp.{IlExp}
-use Rattle.st_semantics.specs.Names.{has_name, all_known, flattened}
-use Rattle.st_semantics.specs.Definitions.{syntaxes}
+use Rattle.st_il.specs.Names.{has_name, all_known, flattened}
+use Rattle.st_il.specs.Definitions.{syntaxes}
 use Rattle.st_semantics.specs.Directions.{mask}
 use Rattle.st_semantics.specs.Environments.{names_of}
 use Rattle.st_semantics.specs.Formed as formed

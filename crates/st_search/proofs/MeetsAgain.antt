@@ -10,7 +10,7 @@ use Rattle.st_il.specs.declared.expression.IlPrem.{IlPrem, out-IlPrem}
 use Rattle.st_il.specs.declared.expression.IlPrem.TheOpen.{IlPrem-F}
 use Rattle.st_il.specs.declared.value.Env.{Env}
 use Rattle.st_il.specs.declared.value.Value.{Value}
-use Rattle.st_semantics.specs.Names.{Name, all_known}
+use Rattle.st_il.specs.Names.{Name, all_known}
 use Rattle.st_semantics.specs.Directions.{inputs_of, outputs_of}
 use Rattle.st_semantics.specs.Parts.{option_list}
 use Rattle.st_semantics.specs.Variables.{vars, vars_of}

@@ -6,8 +6,8 @@ use Rattle.st_il.specs.declared.expression.IlExp.{IlExp}
 use Rattle.st_il.specs.declared.expression.IlPrem.{IlPrem}
 use Rattle.st_il.specs.declared.tree.Child.{Child}
 use Rattle.st_il.specs.declared.value.Env.{Env}
-use Rattle.st_semantics.specs.Names.{has_name, all_known}
-use Rattle.st_semantics.specs.Definitions.{syntaxes}
+use Rattle.st_il.specs.Names.{has_name, all_known}
+use Rattle.st_il.specs.Definitions.{syntaxes}
 use Rattle.st_semantics.specs.Directions.{mask}
 use Rattle.st_semantics.specs.Environments.{AgreeOn, listed_names}
 use Rattle.st_semantics.specs.Evaluation.{tasks}

@@ -7,7 +7,7 @@ use Rattle.st_il.specs.declared.expression.IlExp.TheOpen.{IlExp-F}
 use Rattle.st_il.specs.declared.expression.Iteration.{Iteration}
 use Rattle.st_il.specs.declared.expression.ListItem.{ListItem}
 use Rattle.st_il.specs.declared.expression.PathSeg.{PathSeg}
-use Rattle.st_semantics.specs.Names.{Name, has_name, flattened, among, without}
+use Rattle.st_il.specs.Names.{Name, has_name, flattened, among, without}
 use Rattle.st_semantics.specs.Forms.{Form, Strict, Variable, Calls, Iterates, form_at, HasForm, by_itself, structure, absent_list, absent_option}
 use Rattle.st_semantics.specs.Formed as formed
 use Rattle.st_semantics.specs.Formed.{IsFormed, AreFormed}

@@ -6,7 +6,7 @@ use Rattle.st_il.specs.declared.definition.RuleDef.{RuleDef}
 use Rattle.st_il.specs.declared.expression.IlExp.{IlExp}
 use Rattle.st_il.specs.declared.expression.IlPrem.{IlPrem}
 use Rattle.st_semantics.specs.declared.unfit.Unordered.{Unordered}
-use Rattle.st_semantics.specs.Names.{Name, all_known, without, least}
+use Rattle.st_il.specs.Names.{Name, all_known, without, least}
 use Rattle.st_semantics.specs.Variables.{vars_of}
 use Rattle.st_semantics.specs.Patterns.{bound_by}
 use Rattle.st_semantics.specs.Orders.{is_input, are_inputs, inputs_of_rule, outputs_of_rule}

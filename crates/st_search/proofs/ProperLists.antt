@@ -10,7 +10,7 @@ use Rattle.st_il.specs.declared.expression.IlPrem.{IlPrem, out-IlPrem}
 use Rattle.st_il.specs.declared.expression.IlPrem.TheVariants as prem
 use Rattle.st_il.specs.declared.expression.Iteration.{Iteration}
 use Rattle.st_semantics.specs.Iterations.{count_of}
-use Rattle.st_semantics.specs.Names.{Name}
+use Rattle.st_il.specs.Names.{Name}
 use Rattle.st_semantics.specs.Operands.{operands_at, item_exp, segment_exps}
 use Rattle.st_semantics.specs.OperationTypes.{Level}
 use Rattle.st_semantics.specs.References.{exps_now}

@@ -11,8 +11,8 @@ use Rattle.st_il.specs.declared.expression.IlPrem.{IlPrem}
 use Rattle.st_il.specs.declared.value.Env.{Env}
 use Rattle.st_il.specs.declared.value.Value.{Value}
 use Rattle.st_semantics.specs.declared.outcome.Outcome.TheVariants.{Val, NoValue, Deep}
-use Rattle.st_semantics.specs.Names.{Name, has_name}
-use Rattle.st_semantics.specs.Definitions.{syntaxes, rules_in}
+use Rattle.st_il.specs.Names.{Name, has_name}
+use Rattle.st_il.specs.Definitions.{syntaxes, rules_in}
 use Rattle.st_semantics.specs.Environments.{AgreeOn, EnvOk, IsOrdered, value_in}
 use Rattle.st_semantics.specs.Evaluation.{tasks}
 use Rattle.st_semantics.specs.Variables.{vars, vars_of, prems_vars}

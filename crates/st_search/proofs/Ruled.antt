@@ -6,7 +6,7 @@ use Rattle.st_il.specs.declared.definition.Il.{Il}
 use Rattle.st_il.specs.declared.definition.RelationDef.{RelationDef}
 use Rattle.st_il.specs.declared.definition.RuleDef.{RuleDef}
 use Rattle.st_semantics.specs.declared.unfit.Unordered.{Unordered}
-use Rattle.st_semantics.specs.Definitions.{relations, rules_of}
+use Rattle.st_il.specs.Definitions.{relations, rules_of}
 use Rattle.st_semantics.specs.Directions.{direction}
 use Rattle.st_semantics.specs.OrderOf.{order_of}
 use Rattle.st_order.specs.declared.relation_modes.Modes.{Modes}

@@ -5,7 +5,7 @@ use Rattle.st_il.specs.declared.definition.Listed.{Listed}
 use Rattle.st_il.specs.declared.definition.RuleDef.{RuleDef}
 use Rattle.st_il.specs.declared.expression.IlExp.{IlExp}
 use Rattle.st_il.specs.declared.expression.IlPrem.{IlPrem}
-use Rattle.st_semantics.specs.Names.{Name}
+use Rattle.st_il.specs.Names.{Name}
 use Rattle.st_semantics.specs.Variables.{vars_of, prem_vars}
 use Rattle.st_semantics.specs.Reaching.{bound_behind}
 use Rattle.st_semantics.specs.Orders.{inputs_of_rule, in_order}

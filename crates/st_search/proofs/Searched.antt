@@ -11,8 +11,8 @@ use Rattle.st_il.specs.declared.expression.IlPrem.{IlPrem, out-IlPrem, map-IlPre
 use Rattle.st_il.specs.declared.expression.IlPrem.TheOpen.{IlPrem-F}
 use Rattle.st_semantics.specs.declared.unfit.Unfit.TheVariants as unfit
 use Rattle.st_semantics.specs.declared.unfit.Unordered.{Unordered}
-use Rattle.st_semantics.specs.Names.{Name, flattened}
-use Rattle.st_semantics.specs.Definitions.{relations, relation_named, rules_in, rules_from, rules_of, IsFirst}
+use Rattle.st_il.specs.Names.{Name, flattened}
+use Rattle.st_il.specs.Definitions.{relations, relation_named, rules_in, rules_from, rules_of, IsFirst}
 use Rattle.st_semantics.specs.Directions.{direction}
 use Rattle.st_semantics.specs.Variables.{called_in, prem_called, relations_cited, relations_cited_at, has_otherwise, have_otherwise}
 use Rattle.st_semantics.specs.ModeRules.{Relation, Function, cited_by, cited_by_rule}

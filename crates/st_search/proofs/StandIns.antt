@@ -6,7 +6,7 @@ use Rattle.st_il.specs.declared.expression.IlPrem.{out-IlPrem}
 use Rattle.st_il.specs.declared.expression.IlPrem.TheOpen.{IlPrem-F}
 use Rattle.st_il.specs.declared.tree.Child.{Child}
 use Rattle.st_il.specs.declared.value.Env.{Env}
-use Rattle.st_semantics.specs.Names.{without}
+use Rattle.st_il.specs.Names.{without}
 use Rattle.st_semantics.specs.Environments.{AgreeOn}
 use Rattle.st_semantics.specs.Iterations.{count_of, index_of, spread, Over}
 use Rattle.st_semantics.specs.Evaluation.{tasks}

@@ -10,8 +10,8 @@ use Rattle.st_il.specs.declared.definition.RuleDef.{RuleDef}
 use Rattle.st_il.specs.declared.expression.IlExp.{IlExp}
 use Rattle.st_il.specs.declared.value.Env.{Env}
 use Rattle.st_il.specs.declared.value.Value.{Value}
-use Rattle.st_semantics.specs.Names.{Name, has_name, all_known, without}
-use Rattle.st_semantics.specs.Definitions.{syntaxes}
+use Rattle.st_il.specs.Names.{Name, has_name, all_known, without}
+use Rattle.st_il.specs.Definitions.{syntaxes}
 use Rattle.st_semantics.specs.Environments.{AgreeOn, TypedIn, names_of, listed_names}
 use Rattle.st_semantics.specs.Evaluation.{tasks}
 use Rattle.st_semantics.specs.Variables.{vars, vars_of}

@@ -7,7 +7,7 @@ use Rattle.st_il.specs.declared.expression.IlPrem.{IlPrem, out-IlPrem}
 use Rattle.st_il.specs.declared.expression.IlPrem.TheOpen.{IlPrem-F}
 use Rattle.st_il.specs.declared.expression.Iteration.{Iteration}
 use Rattle.st_il.specs.declared.value.Env.{Env}
-use Rattle.st_semantics.specs.Names.{Name, all_known}
+use Rattle.st_il.specs.Names.{Name, all_known}
 use Rattle.st_semantics.specs.Environments.{names_of}
 use Rattle.st_semantics.specs.Patterns.{binds}
 use Rattle.st_semantics.specs.Variables.{vars}

@@ -6,8 +6,8 @@ use Rattle.st_il.specs.declared.expression.IlExp.{IlExp}
 use Rattle.st_il.specs.declared.expression.IlPrem.{IlPrem, out-IlPrem, map-IlPrem, fold_out-IlPrem}
 use Rattle.st_il.specs.declared.expression.IlPrem.TheOpen.{IlPrem-F}
 use Rattle.st_il.specs.declared.expression.Iteration.{Iteration}
-use Rattle.st_semantics.specs.Names.{Name, all_known}
-use Rattle.st_semantics.specs.Definitions.{syntaxes}
+use Rattle.st_il.specs.Names.{Name, all_known}
+use Rattle.st_il.specs.Definitions.{syntaxes}
 use Rattle.st_semantics.specs.Directions.{inputs_of, outputs_of}
 use Rattle.st_semantics.specs.Formed.{IsFormed}
 use Rattle.st_semantics.specs.Variables.{vars, relations_cited, relations_cited_at, has_otherwise}

@@ -8,8 +8,8 @@ use Rattle.st_il.specs.declared.expression.IlPrem.{IlPrem}
 use Rattle.st_il.specs.declared.tree.Tree.{Tree}
 use Rattle.st_il.specs.declared.value.Env.{Env}
 use Rattle.st_il.specs.declared.value.Value.{Value}
-use Rattle.st_semantics.specs.Names.{Name, has_name, all_known}
-use Rattle.st_semantics.specs.Definitions.{syntaxes, rules_in}
+use Rattle.st_il.specs.Names.{Name, has_name, all_known}
+use Rattle.st_il.specs.Definitions.{syntaxes, rules_in}
 use Rattle.st_semantics.specs.Directions.{mask, inputs_by, outputs_by, inputs_of, outputs_of}
 use Rattle.st_semantics.specs.Environments.{EnvOk, IsOrdered, IsSomeTyped, names_of, value_in, type_of, listed_names}
 use Rattle.st_semantics.specs.Evaluation.{tasks}

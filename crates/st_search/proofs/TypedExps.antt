@@ -20,8 +20,8 @@ use Rattle.st_num.specs.Texts.{IsText}
 use Rattle.st_type_table.specs.Cases.{HasFields}
 use Rattle.st_type_table.specs.Meaning.{Means, itself}
 use Rattle.st_type_table.specs.Same.{Same, SameAll}
-use Rattle.st_semantics.specs.Names.{Name, flattened}
-use Rattle.st_semantics.specs.Definitions.{syntaxes}
+use Rattle.st_il.specs.Names.{Name, flattened}
+use Rattle.st_il.specs.Definitions.{syntaxes}
 use Rattle.st_semantics.specs.Environments.{wrapped, type_of, listed_as}
 use Rattle.st_semantics.specs.Forms.{Strict, form_at, operation_at, building, by_itself, structure, absent_list, absent_option}
 use Rattle.st_semantics.specs.Iterations.{count_of, kind_of}

@@ -14,8 +14,8 @@ use Rattle.st_il.specs.declared.ty.Ty.TheVariants as ty
 use Rattle.st_il.specs.declared.value.Env.{Env}
 use Rattle.st_il.specs.declared.value.Value.{Value}
 use Rattle.st_semantics.specs.declared.outcome.Outcome.TheVariants.{Val, Deep}
-use Rattle.st_semantics.specs.Names.{Name, has_name, all_known, without}
-use Rattle.st_semantics.specs.Definitions.{syntaxes, clauses_in, clauses_of, clauses_from}
+use Rattle.st_il.specs.Names.{Name, has_name, all_known, without}
+use Rattle.st_il.specs.Definitions.{syntaxes, clauses_in, clauses_of, clauses_from}
 use Rattle.st_semantics.specs.Directions.{mask, inputs_by, inputs_of}
 use Rattle.st_semantics.specs.Environments.{TypedIn, IsTypedValue, AreTypedValues, IsSomeTyped, value_in, type_of, listed_as, listed_in}
 use Rattle.st_semantics.specs.Scopes.{stepped, stepped_all, indices, listed_inside}

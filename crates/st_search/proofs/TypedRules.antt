@@ -19,8 +19,8 @@ use Rattle.st_il.specs.declared.expression.Iteration.{Iteration}
 use Rattle.st_il.specs.declared.ty.Ty.{Ty}
 use Rattle.st_il.specs.declared.type_rule.TypeRule.{TypeRule}
 use Rattle.st_il.specs.Occurrences.{occurs_in_prem}
-use Rattle.st_semantics.specs.Names.{Name, has_name, all_known, flattened}
-use Rattle.st_semantics.specs.Definitions.{syntaxes, relation_named, rules_in, clauses_in}
+use Rattle.st_il.specs.Names.{Name, has_name, all_known, flattened}
+use Rattle.st_il.specs.Definitions.{syntaxes, relation_named, rules_in, clauses_in}
 use Rattle.st_semantics.specs.Directions.{mask}
 use Rattle.st_semantics.specs.Environments.{listed_as, listed_names}
 use Rattle.st_semantics.specs.Formed.{PremIsFormed}

@@ -6,8 +6,8 @@ use Rattle.st_il.specs.declared.definition.Il.{Il}
 use Rattle.st_il.specs.declared.definition.RuleDef.{RuleDef}
 use Rattle.st_il.specs.declared.value.Value.{Value}
 use Rattle.st_il.specs.Order.{values_cmp}
-use Rattle.st_semantics.specs.Names.{Name}
-use Rattle.st_semantics.specs.Definitions.{IsRelation, rules_of}
+use Rattle.st_il.specs.Names.{Name}
+use Rattle.st_il.specs.Definitions.{IsRelation, rules_of}
 use Rattle.st_semantics.specs.Directions.{inputs_of, outputs_of}
 use Rattle.st_semantics.specs.Derivation.{Derivable}
 use Rattle.st_semantics.specs.Goals.{Goal}

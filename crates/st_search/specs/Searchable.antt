@@ -9,8 +9,8 @@ use Rattle.st_il.specs.declared.expression.IlExp.{IlExp}
 use Rattle.st_il.specs.declared.expression.Iteration.{Iteration}
 use Rattle.st_il.specs.declared.expression.IlPrem.{IlPrem, out-IlPrem}
 use Rattle.st_il.specs.declared.expression.IlPrem.TheOpen.{IlPrem-F}
-use Rattle.st_semantics.specs.Names.{Name, all_known}
-use Rattle.st_semantics.specs.Definitions.{rules_in, rules_of, relation_named}
+use Rattle.st_il.specs.Names.{Name, all_known}
+use Rattle.st_il.specs.Definitions.{rules_in, rules_of, relation_named}
 use Rattle.st_semantics.specs.Directions.{mask}
 use Rattle.st_semantics.specs.Environments.{listed_names, listed_as}
 use Rattle.st_semantics.specs.Scopes.{listed_inside}

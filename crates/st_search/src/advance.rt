@@ -2,7 +2,7 @@
 
 ghost use Rattle.std.specs.Prelude.{◌≡◌, ◌++◌, ℕ, List, IfOk, IfErr};
 ghost use Rattle.st_il.specs.declared.expression.IlPrem.{IlPrem};
-ghost use Rattle.st_semantics.specs.Names.{Name};
+ghost use Rattle.st_il.specs.Names.{Name};
 ghost use Rattle.st_semantics.specs.Variables.{prem_vars};
 ghost use Rattle.st_semantics.specs.Derivation.{Root};
 ghost use Rattle.st_eval.specs.Steps.{HasOnly};
@@ -14,14 +14,14 @@ ghost use Rattle.st_search.specs.inner.Running.{next_seeks, AllEndWith};
 ghost use Rattle.st_search.specs.inner.Contracts.{IsShort};
 ghost use Rattle.st_search.specs.inner.Search.{IsSearch, AnswersGoals};
 
-use crate::copy::{copy_children, copy_lists};
+use crate::copy::copy_lists;
 use crate::finder::Finder;
 use crate::found::{Found, Partial, Solution, greater, joined};
 use crate::setting::Search;
 use crate::step::run_step;
 use crate::stop::Stop;
 use st_algo::AlgoStep;
-use st_il::{Env, Listed, copy_fields};
+use st_il::{Env, Listed, copy_children, copy_fields};
 use st_match::scope_of;
 use st_num::{NoMemory, Row};
 use std::alloc::Global;

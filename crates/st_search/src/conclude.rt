@@ -3,7 +3,7 @@
 ghost use Rattle.std.specs.Prelude.{◌≡◌, ◌<◌, ◌^◌, ℕ, List, length, IfOk, IfErr, OnOk, MatchOption};
 ghost use Rattle.std.specs.List.{AllByRecursion};
 ghost use Rattle.st_semantics.specs.declared.outcome.Outcome.TheVariants as variant;
-ghost use Rattle.st_semantics.specs.Definitions.{syntaxes, IsRelation};
+ghost use Rattle.st_il.specs.Definitions.{syntaxes, IsRelation};
 ghost use Rattle.st_semantics.specs.Formed.{AreFormed};
 ghost use Rattle.st_semantics.specs.Orders.{outputs_of_rule, in_order};
 ghost use Rattle.st_semantics.specs.Evaluation.{tasks};

@@ -8,12 +8,11 @@ ghost use Rattle.st_search.specs.inner.Sought.{StopsIf};
 ghost use Rattle.st_search.specs.inner.Walks.{many};
 ghost use Rattle.st_search.specs.inner.Gathering.{IsGatheredTo, AreGatheredTo, SomeTooHigh};
 
-use crate::copy::copy_children;
 use crate::found::{Solution, Walk, joined};
 use crate::stop::Stop;
 use st_eval::Met;
 use st_eval::each::gathered_met;
-use st_il::{Child, Iteration, Listed};
+use st_il::{Child, Iteration, Listed, copy_children};
 use st_num::{Name, NoMemory, Row};
 use st_types::TypeTable;
 use std::alloc::Global;

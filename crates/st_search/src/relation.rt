@@ -3,8 +3,8 @@
 ghost use Rattle.std.specs.Prelude.{◌≡◌, false, ℕ, Some, All, slice_get, bytes_eq, IfOk, IfErr, MatchOption, find};
 ghost use Rattle.std.specs.Option.{option_copied};
 ghost use Rattle.st_il.specs.declared.definition.RelationDef.{RelationDef};
-ghost use Rattle.st_semantics.specs.Names.{Name};
-ghost use Rattle.st_semantics.specs.Definitions.{IsRelation, rules_of};
+ghost use Rattle.st_il.specs.Names.{Name};
+ghost use Rattle.st_il.specs.Definitions.{IsRelation, rules_of};
 ghost use Rattle.st_semantics.specs.Goals.{Goal};
 ghost use Rattle.st_order.specs.Known.{all_now};
 ghost use Rattle.st_search.specs.Answers.{goal_of, AreSorted};

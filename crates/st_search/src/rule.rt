@@ -2,8 +2,8 @@
 
 ghost use Rattle.std.specs.Prelude.{◌≡◌, ◌<◌, ◌^◌, ◌++◌, ◌∷◌, [], ℕ, List, length, IfOk, IfErr, MatchOption};
 ghost use Rattle.st_il.specs.declared.expression.IlExp.{IlExp};
-ghost use Rattle.st_semantics.specs.Names.{Name};
-ghost use Rattle.st_semantics.specs.Definitions.{IsRelation};
+ghost use Rattle.st_il.specs.Names.{Name};
+ghost use Rattle.st_il.specs.Definitions.{IsRelation};
 ghost use Rattle.st_semantics.specs.Orders.{inputs_of_rule, outputs_of_rule, in_order};
 ghost use Rattle.st_semantics.specs.Variables.{vars_of};
 ghost use Rattle.st_semantics.specs.Goals.{Goal};

@@ -5,7 +5,7 @@
 
 ghost use Rattle.std.specs.Prelude.{◌≡◌, ◌≤◌, ◌∷◌, [], false, None, IfOk};
 ghost use Rattle.st_order.specs.Known.{AreDirections, all_now};
-ghost use Rattle.st_semantics.specs.Definitions.{relations};
+ghost use Rattle.st_il.specs.Definitions.{relations};
 ghost use Rattle.st_semantics.specs.Goals.{AreInputs};
 ghost use Rattle.st_semantics.specs.Marks.{HasMark};
 ghost use Rattle.st_search.specs.Searchable.{IsSearchable, HasNoOtherwise};

@@ -2,7 +2,7 @@
 //! be searched.
 
 ghost use Rattle.st_il.specs.declared.definition.Il.{Il};
-ghost use Rattle.st_semantics.specs.Definitions.{syntaxes};
+ghost use Rattle.st_il.specs.Definitions.{syntaxes};
 ghost use Rattle.st_semantics.specs.Breaches.{KeepModes};
 ghost use Rattle.st_semantics.specs.Typing.{ConclusionsAreTyped};
 ghost use Rattle.st_order.specs.declared.relation_modes.Modes.{Modes};

@@ -6,7 +6,7 @@
 
 ghost use Rattle.std.specs.Prelude.{◌≡◌, ◌++◌, ◌∷◌, [], ◌<◌, ◌^◌, List, IfOk, IfErr};
 ghost use Rattle.st_il.specs.declared.expression.IlPrem.{IlPrem};
-ghost use Rattle.st_semantics.specs.Names.{Name};
+ghost use Rattle.st_il.specs.Names.{Name};
 ghost use Rattle.st_semantics.specs.Iterations.{index_of, rows};
 ghost use Rattle.st_match.specs.inner.Scope.{scope_env, entries_of, columns_now};
 ghost use Rattle.st_eval.specs.Steps.{HasOnly};
@@ -21,7 +21,6 @@ ghost use Rattle.st_search.specs.inner.Contracts.{FindsAtAll, StopsAtAll, BindsA
 ghost use Rattle.st_search.specs.inner.Search.{IsSearch};
 
 use crate::condition::{bind, test};
-use crate::copy::copy_children;
 use crate::finder::Finder;
 use crate::found::{Found, Solution, Walk, greater, joined, nothing};
 use crate::gather::all_gathered;
@@ -33,7 +32,7 @@ use st_eval::each::{count_values, names_known};
 use st_eval::element::{bound_inside, bound_names};
 use st_eval::listed_inside;
 use st_eval::meet::table_over;
-use st_il::{Env, Iteration, Listed, copy_env};
+use st_il::{Env, Iteration, Listed, copy_children, copy_env};
 use st_match::{Bound, Elements};
 use st_num::{Name, NoMemory, Row};
 use st_semantics::Outcomes;

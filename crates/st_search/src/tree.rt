@@ -2,13 +2,12 @@
 
 ghost use Rattle.std.specs.Prelude.{◌≡◌, length, IfOk};
 ghost use Rattle.st_il.specs.declared.value.Env.{Env};
-ghost use Rattle.st_semantics.specs.Names.{Name};
+ghost use Rattle.st_il.specs.Names.{Name};
 ghost use Rattle.st_semantics.specs.Environments.{IsOrdered, value_in};
 ghost use Rattle.st_search.specs.inner.Trees.{merged, placed, arranged};
 
-use crate::copy::copy_children;
 use crate::found::{Partial, joined};
-use st_il::{Child, Env, RuleDef, Tree, Value, copy_env, copy_value};
+use st_il::{Child, Env, RuleDef, Tree, Value, copy_children, copy_env, copy_value};
 use st_match::extensions;
 use st_num::{NoMemory, Row};
 use st_types::TypeTable;

@@ -16,8 +16,8 @@ use Rattle.st_semantics.specs.declared.notes.Notes.{Notes}
 use Rattle.st_semantics.specs.declared.outcome.Outcome.TheVariants.{Val}
 use Rattle.st_semantics.specs.declared.outcome.Outcomes.{Outcomes}
 use Rattle.st_semantics.specs.declared.outcome.Outcomes.TheVariants.{Values, Stopped}
-use Rattle.st_semantics.specs.Names.{Name}
-use Rattle.st_semantics.specs.Definitions.{syntaxes}
+use Rattle.st_il.specs.Names.{Name}
+use Rattle.st_il.specs.Definitions.{syntaxes}
 use Rattle.st_semantics.specs.Iterations.{count_of, spread, Spread, Misfit, Over}
 use Rattle.st_semantics.specs.Evaluation.{Task, tasks, GivesAll, way, way_over, Ends, Goes, none, stop, next}
 use Rattle.st_semantics.specs.Variables.{cites, cites_at, has_otherwise, has_otherwise_at}

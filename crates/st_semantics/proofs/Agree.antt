@@ -16,7 +16,7 @@ use Rattle.st_semantics.specs.declared.outcome.Outcome.{Outcome}
 use Rattle.st_semantics.specs.declared.outcome.Outcome.TheVariants.{Val}
 use Rattle.st_semantics.specs.declared.outcome.Outcomes.{Outcomes}
 use Rattle.st_semantics.specs.declared.outcome.Outcomes.TheVariants.{Values, Stopped}
-use Rattle.st_semantics.specs.Names.{Name, without}
+use Rattle.st_il.specs.Names.{Name, without}
 use Rattle.st_semantics.specs.Environments.{Entry, AgreeOn, lookup}
 use Rattle.st_semantics.specs.Parts.{given}
 use Rattle.st_semantics.specs.Forms.{Form, Strict, Variable, Calls, Iterates, HasForm}

@@ -11,7 +11,7 @@ use Rattle.st_il.specs.declared.ty.Ty.{Ty}
 use Rattle.st_il.specs.declared.ty.Ty.TheVariants as ty
 use Rattle.st_type_table.specs.Cases.{HasFields}
 use Rattle.st_type_table.specs.Meaning.{Means, itself, alias, alias_of, fields_of}
-use Rattle.st_semantics.specs.Names.{Name}
+use Rattle.st_il.specs.Names.{Name}
 use Rattle.st_semantics.specs.OperationTypes as row
 use Rattle.st_semantics.specs.OperationTypes.{PathType, OperationType}
 

@@ -9,7 +9,7 @@ use Rattle.st_il.specs.declared.expression.IlPrem.TheOpen.{IlPrem-F}
 use Rattle.st_il.specs.declared.expression.Iteration.{Iteration}
 use Rattle.st_il.specs.declared.expression.ListItem.{ListItem}
 use Rattle.st_il.specs.declared.expression.PathSeg.{PathSeg}
-use Rattle.st_semantics.specs.Names.{Name, has_name, all_known, without}
+use Rattle.st_il.specs.Names.{Name, has_name, all_known, without}
 use Rattle.st_semantics.specs.Iterations.{count_of, index_of}
 use Rattle.st_semantics.specs.Variables.{vars, prem_vars, prem_vars_at}
 use Rattle.st_semantics.specs.Patterns.{is_pattern, binds}

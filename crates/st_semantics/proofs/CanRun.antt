@@ -16,8 +16,8 @@ use Rattle.st_il.specs.declared.expression.ListItem.{ListItem}
 use Rattle.st_il.specs.declared.expression.PathSeg.{PathSeg}
 use Rattle.st_il.specs.declared.value.Value.{Value}
 use Rattle.st_num.specs.declared.rule.RuleId.TheVariants.{M3, M4}
-use Rattle.st_semantics.specs.Names.{Name, has_name, all_known, among, without}
-use Rattle.st_semantics.specs.Definitions.{clauses_in}
+use Rattle.st_il.specs.Names.{Name, has_name, all_known, among, without}
+use Rattle.st_il.specs.Definitions.{clauses_in}
 use Rattle.st_semantics.specs.Iterations.{count_of, index_of, count_at}
 use Rattle.st_semantics.specs.Variables.{vars, vars_of, prem_vars, prems_vars, cites, cites_at}
 use Rattle.st_semantics.specs.Patterns.{Told, is_pattern, bound_by}

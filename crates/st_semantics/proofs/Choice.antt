@@ -21,8 +21,8 @@ use Rattle.st_il.specs.Order.{value_cmp}
 use Rattle.st_il.proofs.OrderLaws.{value_cmp-exact}
 use Rattle.st_semantics.specs.declared.outcome.Outcome.TheVariants.{Val, Deep}
 use Rattle.st_semantics.specs.declared.outcome.Outcomes.TheVariants.{Values, Stopped}
-use Rattle.st_semantics.specs.Names.{Name, has_name, all_known, without}
-use Rattle.st_semantics.specs.Definitions.{syntaxes}
+use Rattle.st_il.specs.Names.{Name, has_name, all_known, without}
+use Rattle.st_il.specs.Definitions.{syntaxes}
 use Rattle.st_semantics.specs.Environments.{AgreeOn, value_in}
 use Rattle.st_semantics.specs.Parts.{binary}
 use Rattle.st_semantics.specs.Operators.{equality, is_same}

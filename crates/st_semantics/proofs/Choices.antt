@@ -12,8 +12,8 @@ use Rattle.st_il.specs.declared.value.Env.{Env}
 use Rattle.st_il.specs.declared.value.Value.{Value}
 use Rattle.st_num.specs.declared.rule.RuleId.TheVariants.{M3, M4, M6}
 use Rattle.st_semantics.specs.declared.outcome.Outcome.{Outcome}
-use Rattle.st_semantics.specs.Names.{Name, has_name, all_known, flattened}
-use Rattle.st_semantics.specs.Definitions.{syntaxes, clauses_in, clauses_of, clauses_from}
+use Rattle.st_il.specs.Names.{Name, has_name, all_known, flattened}
+use Rattle.st_il.specs.Definitions.{syntaxes, clauses_in, clauses_of, clauses_from}
 use Rattle.st_semantics.specs.Environments.{AgreeOn, listed_names}
 use Rattle.st_semantics.specs.Evaluation.{Answers, tasks}
 use Rattle.st_semantics.specs.Variables.{vars, vars_of, prem_vars, prems_vars}

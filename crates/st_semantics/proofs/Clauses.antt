@@ -10,8 +10,8 @@ use Rattle.st_il.specs.declared.value.Env.{Env}
 use Rattle.st_il.specs.declared.value.Value.{Value}
 use Rattle.st_semantics.specs.declared.outcome.Outcome.{Outcome}
 use Rattle.st_semantics.specs.declared.outcome.Outcome.TheVariants.{Val, Deep}
-use Rattle.st_semantics.specs.Names.{Name}
-use Rattle.st_semantics.specs.Definitions.{syntaxes, clauses_in, clauses_of, clauses_from}
+use Rattle.st_il.specs.Names.{Name}
+use Rattle.st_il.specs.Definitions.{syntaxes, clauses_in, clauses_of, clauses_from}
 use Rattle.st_semantics.specs.Environments.{EnvOk, AgreeOn, TypedIn, listed_in}
 use Rattle.st_semantics.specs.Evaluation.{Answers, tasks, Gives}
 use Rattle.st_semantics.specs.Variables.{vars_of, prem_vars, prems_vars}

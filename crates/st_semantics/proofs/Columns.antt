@@ -10,7 +10,7 @@ use Rattle.st_il.specs.declared.value.Env.{Env}
 use Rattle.st_il.specs.declared.value.Value.{Value, out-Value, roll-Value, roll-out-Value}
 use Rattle.st_il.specs.declared.value.Value.TheOpen.{Value-F}
 use Rattle.st_il.specs.declared.value.Value.TheVariants as value
-use Rattle.st_semantics.specs.Names.{Name, has_name}
+use Rattle.st_il.specs.Names.{Name, has_name}
 use Rattle.st_semantics.specs.Environments.{Entry, lookup, value_in, AgreeOn}
 use Rattle.st_semantics.specs.Parts.{elements_at, elements, option_at, number_at, natural_of, natural}
 use Rattle.st_semantics.specs.Iterations.{index_of, kind_of, may_be, Column, column_at, column_of, columns, all_long, size_of, heads, tails, bound_to, counted_to, rows, Over, spread}

@@ -25,8 +25,8 @@ use Rattle.st_type_table.specs.Meaning.{alias_of, itself}
 use Rattle.st_type_table.specs.HasType.{AllHaveType, no_more, one_more}
 use Rattle.st_type_table.specs.inner.TypedLevels.{TypedAt}
 use Rattle.st_type_table.proofs.HasTypeLemmas.{typed-opened}
-use Rattle.st_semantics.specs.Names.{Name, flattened, has_name}
-use Rattle.st_semantics.specs.Definitions.{syntaxes}
+use Rattle.st_il.specs.Names.{Name, flattened, has_name}
+use Rattle.st_il.specs.Definitions.{syntaxes}
 use Rattle.st_semantics.specs.Environments.{Entry, lookup, IsTypedValue, IsSomeTyped, numbers_of, numbers_at, wrapped, type_of, listed_as, TypedIn}
 use Rattle.st_semantics.specs.Parts.{elements_at, option_at}
 use Rattle.st_semantics.specs.Iterations.{index_of, kind_of, may_be, Column, column_of, before, columns, all_long, size_of, heads, tails, bound_to, counted_to, rows, Over, spread_rows, spread_long, spread}

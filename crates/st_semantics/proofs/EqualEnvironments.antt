@@ -6,7 +6,7 @@ use Rattle.st_il.specs.declared.definition.SyntaxDef.{SyntaxDef}
 use Rattle.st_il.specs.declared.value.Env.{Env}
 use Rattle.st_il.specs.declared.value.Value.{Value}
 use Rattle.st_il.specs.Order.{text_cmp}
-use Rattle.st_semantics.specs.Names.{Name, has_name}
+use Rattle.st_il.specs.Names.{Name, has_name}
 use Rattle.st_semantics.specs.Environments.{Entry, lookup, value_in, names_of, listed_names, EnvOk, AgreeOn}
 use Rattle.st_semantics.specs.inner.Sorted.{AreSorted}
 use Rattle.st_semantics.proofs.Names.{bytes-same, bytes-path, known-within, true_false}

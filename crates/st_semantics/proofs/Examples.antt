@@ -34,8 +34,8 @@ use Rattle.st_semantics.specs.Variables.{cites}
 use Rattle.st_semantics.specs.Holding.{Instance}
 use Rattle.st_semantics.specs.Walks as w
 use Rattle.st_semantics.specs.Walks.{Walks, Tests}
-use Rattle.st_semantics.specs.Names.{Name}
-use Rattle.st_semantics.specs.Definitions.{rules_of}
+use Rattle.st_il.specs.Names.{Name}
+use Rattle.st_il.specs.Definitions.{rules_of}
 use Rattle.st_semantics.specs.Directions.{mask, inputs_of, outputs_of}
 use Rattle.st_semantics.specs.Environments.{EnvOk, HasListed, IsOrdered, IsTypedValue, numbers_of}
 use Rattle.st_semantics.specs.Forms.{by_itself}

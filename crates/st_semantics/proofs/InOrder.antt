@@ -10,7 +10,7 @@ use Rattle.std.proofs.lemmas.List.Elements.{All-nil, All-cons}
 use Rattle.std.proofs.lemmas.List.Kept.{AllPairs-cons}
 use Rattle.std.specs.List.{slice_index_or, All}
 use Rattle.st_il.specs.Order.{text_cmp}
-use Rattle.st_semantics.specs.Names.{Name, has_name}
+use Rattle.st_il.specs.Names.{Name, has_name}
 use Rattle.st_semantics.specs.inner.Sorted.{AreSorted}
 use Rattle.st_semantics.proofs.Names.{bytes-same, bytes-path, or-left, or-right, or-cases}
 

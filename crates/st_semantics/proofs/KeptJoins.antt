@@ -19,7 +19,7 @@ use Rattle.st_type_table.proofs.MeansLemmas.{Means-single}
 use Rattle.st_type_table.proofs.CasesLemmas.{HasFields-single}
 use Rattle.st_type_table.specs.HasType as type
 use Rattle.st_type_table.specs.HasType.{HasType, AllHaveType, FieldsHaveTypes}
-use Rattle.st_semantics.specs.Names.{Name, flattened}
+use Rattle.st_il.specs.Names.{Name, flattened}
 use Rattle.st_semantics.specs.Environments.{Entry, numbers_of}
 use Rattle.st_semantics.specs.Parts.{option_list, binary, with_both}
 use Rattle.st_semantics.specs.Operators.{Joining, joined_options, joined_fields, values_of, joined_by, joining_at, join}

@@ -23,7 +23,7 @@ use Rattle.st_type_table.specs.HasType as type
 use Rattle.st_type_table.specs.HasType.{HasType, AllHaveType, FieldsHaveTypes}
 use Rattle.st_type_table.specs.inner.TypedLevels.{TypedAt, RecordHasType}
 use Rattle.st_type_table.proofs.HasTypeLemmas.{typed-opened}
-use Rattle.st_semantics.specs.Names.{Name, flattened}
+use Rattle.st_il.specs.Names.{Name, flattened}
 use Rattle.st_semantics.specs.Environments.{Entry, IsTypedValue, AreTypedValues, numbers_of}
 use Rattle.st_semantics.specs.Parts.{elements_at, fields_at, elements, natural, with_both}
 use Rattle.st_semantics.specs.Operators.{concatenation}

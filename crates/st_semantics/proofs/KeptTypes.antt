@@ -36,7 +36,7 @@ use Rattle.st_type_table.specs.inner.TypedLevels.{TypedAt, RecordHasType}
 use Rattle.st_type_table.proofs.HasTypeLemmas.{typed-opened}
 use Rattle.st_type_table.proofs.UpLaws.{Sub-up}
 use Rattle.st_semantics.specs.declared.outcome.Outcome.TheVariants.{Val}
-use Rattle.st_semantics.specs.Names.{Name, flattened}
+use Rattle.st_il.specs.Names.{Name, flattened}
 use Rattle.st_semantics.specs.Environments.{Entry, lookup, IsTypedValue, AreTypedValues, numbers_of, numbers_at}
 use Rattle.st_semantics.specs.Parts.{fields_at, constant, unchanged, unary, binary, ternary, made, limited, truth, number, natural, elements, with_both}
 use Rattle.st_semantics.specs.Operators as operator

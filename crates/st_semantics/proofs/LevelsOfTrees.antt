@@ -12,8 +12,8 @@ use Rattle.st_il.specs.declared.tree.Child.{Child}
 use Rattle.st_il.specs.declared.tree.Tree.{Tree}
 use Rattle.st_il.specs.declared.value.Env.{Env}
 use Rattle.st_il.specs.declared.value.Value.{Value}
-use Rattle.st_semantics.specs.Names.{Name}
-use Rattle.st_semantics.specs.Definitions.{rules_in, rules_of, count_of_rules}
+use Rattle.st_il.specs.Names.{Name}
+use Rattle.st_il.specs.Definitions.{rules_in, rules_of, count_of_rules}
 use Rattle.st_semantics.specs.Directions.{inputs_of}
 use Rattle.st_semantics.specs.Variables.{has_otherwise, have_otherwise}
 use Rattle.st_semantics.specs.Breaches.{KeepModes}

@@ -14,7 +14,7 @@ use Rattle.st_il.specs.declared.value.Value.TheOpen.{Value-F}
 use Rattle.st_il.specs.declared.value.Value.TheVariants as value
 use Rattle.st_il.specs.Height.{height, height_at, highest}
 use Rattle.st_semantics.specs.declared.outcome.Outcome.TheVariants.{Val, Deep}
-use Rattle.st_semantics.specs.Names.{Name, has_name}
+use Rattle.st_il.specs.Names.{Name, has_name}
 use Rattle.st_semantics.specs.Environments.{Entry, lookup, value_in, names_of, listed_names, listed_as, type_of, IsSomeTyped, EnvOk}
 use Rattle.st_semantics.specs.Parts.{elements_at, option_at, limited}
 use Rattle.st_semantics.specs.Iterations.{index_of, kind_of, Column, column_of, columns, all_long, heads, tails, bound_to, counted_to, rows, Over, spread, gathered_as}

@@ -11,8 +11,8 @@ use Rattle.st_il.specs.declared.definition.RelationDef.{RelationDef}
 use Rattle.st_il.specs.declared.definition.RuleDef.{RuleDef}
 use Rattle.st_num.specs.declared.rule.RuleId.{RuleId}
 use Rattle.st_num.specs.declared.rule.RuleId.TheVariants.{M1, M2, M3, M4, M5, M6, M7}
-use Rattle.st_semantics.specs.Names.{Name}
-use Rattle.st_semantics.specs.Definitions.{relation_named, rules_in, rules_from, rules_of, clauses_in}
+use Rattle.st_il.specs.Names.{Name}
+use Rattle.st_il.specs.Definitions.{relation_named, rules_in, rules_from, rules_of, clauses_in}
 use Rattle.st_semantics.specs.Directions.{direction}
 use Rattle.st_semantics.specs.Variables.{have_otherwise}
 use Rattle.st_semantics.specs.ModeRules.{IsDirected, IsOtherwise, cites_nothing, Leads, keeps_m3, keeps_m4, keeps_m6, keeps_m7}

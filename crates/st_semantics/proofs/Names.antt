@@ -11,7 +11,7 @@ use Rattle.st_il.specs.declared.expression.Iteration.{Iteration, out-Iteration, 
 use Rattle.st_il.specs.declared.expression.ListItem.{ListItem, out-ListItem, fold-ListItem, fold_out-ListItem, map-ListItem}
 use Rattle.st_il.specs.declared.expression.PathSeg.{PathSeg, out-PathSeg, fold-PathSeg, fold_out-PathSeg, map-PathSeg}
 use Rattle.st_il.specs.declared.value.Env.{Env}
-use Rattle.st_semantics.specs.Names.{Name, flattened, has_name, all_known, without}
+use Rattle.st_il.specs.Names.{Name, flattened, has_name, all_known, without}
 use Rattle.st_semantics.specs.Environments.{AgreeOn, value_in}
 use Rattle.st_semantics.specs.Operands.{item_at, segment_at, item_exp, segment_exps}
 use Rattle.st_semantics.specs.Forms.{Form, Strict, Variable, Calls, Iterates, form_at, HasForm, by_itself, structure, absent_list, absent_option}

@@ -18,8 +18,8 @@ use Rattle.st_semantics.proofs.Modes.{modes_by_name}
 use Rattle.st_semantics.specs.declared.verify_rule.VerifyRule.{VerifyRule}
 use Rattle.st_semantics.specs.declared.verify_rule.VerifyRule.TheVariants.{V4, V5, V6, V7, V10, V13}
 use Rattle.st_semantics.specs.declared.notes.Notes.{Notes}
-use Rattle.st_semantics.specs.Names.{Name}
-use Rattle.st_semantics.specs.Definitions.{IsRelation, relation_named, relations, rules_in, rules_from, rules_of, syntaxes}
+use Rattle.st_il.specs.Names.{Name}
+use Rattle.st_il.specs.Definitions.{IsRelation, relation_named, relations, rules_in, rules_from, rules_of, syntaxes}
 use Rattle.st_semantics.specs.Directions.{mask, inputs_by, inputs_of}
 use Rattle.st_semantics.specs.Environments.{EnvOk}
 use Rattle.st_semantics.specs.Evaluation.{tasks}

@@ -17,8 +17,8 @@ use Rattle.st_type_table.specs.Same as same
 use Rattle.st_type_table.specs.Same.{Same, SameAll}
 use Rattle.st_type_table.proofs.MeansLemmas.{Means-single}
 use Rattle.st_type_table.proofs.SubLaws.{Same-trans}
-use Rattle.st_semantics.specs.Names.{Name}
-use Rattle.st_semantics.specs.Definitions.{syntaxes}
+use Rattle.st_il.specs.Names.{Name}
+use Rattle.st_il.specs.Definitions.{syntaxes}
 use Rattle.st_semantics.specs.Environments.{wrapped, type_of, listed_as}
 use Rattle.st_semantics.specs.Iterations.{kind_of}
 use Rattle.st_semantics.specs.Scopes.{listed_inside}

@@ -12,7 +12,7 @@ use Rattle.st_il.specs.declared.value.Value.TheVariants as value
 use Rattle.st_type_table.specs.Cases.{HasFields}
 use Rattle.st_type_table.specs.Meaning.{Means}
 use Rattle.st_type_table.proofs.CasesLemmas.{HasFields-single}
-use Rattle.st_semantics.specs.Names.{Name, flattened}
+use Rattle.st_il.specs.Names.{Name, flattened}
 use Rattle.st_semantics.specs.Parts.{Operation, constant, unchanged, unary, binary, ternary, limited}
 use Rattle.st_semantics.specs.Operators as operator
 use Rattle.st_semantics.specs.Forms.{HasForm, Strict, form_at, by_itself, structure, absent_list, absent_option, listing, building}

@@ -11,7 +11,7 @@ use Rattle.st_il.specs.declared.ty.Ty.{Ty}
 use Rattle.st_il.specs.declared.value.Value.{Value, out-Value}
 use Rattle.st_il.specs.declared.value.Value.TheOpen.{Value-F}
 use Rattle.st_il.specs.declared.value.Value.TheVariants as value
-use Rattle.st_semantics.specs.Names.{Name, has_name, flattened, among, without}
+use Rattle.st_il.specs.Names.{Name, has_name, flattened, among, without}
 use Rattle.st_semantics.specs.Parts.{Operation, constant}
 use Rattle.st_semantics.specs.Operands.{item_at, segment_at, item_exp}
 use Rattle.st_semantics.specs.Forms.{Form, Strict, Variable, Calls, Iterates, form_at, building, HasForm, by_itself, structure, absent_list, absent_option}

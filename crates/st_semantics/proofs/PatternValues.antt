@@ -17,7 +17,7 @@ use Rattle.st_semantics.specs.declared.outcome.Outcome.{Outcome}
 use Rattle.st_semantics.specs.declared.outcome.Outcome.TheVariants.{Val}
 use Rattle.st_semantics.specs.declared.outcome.Outcomes.{Outcomes}
 use Rattle.st_semantics.specs.declared.outcome.Outcomes.TheVariants.{Values, Stopped}
-use Rattle.st_semantics.specs.Names.{Name, has_name, flattened, among, without}
+use Rattle.st_il.specs.Names.{Name, has_name, flattened, among, without}
 use Rattle.st_semantics.specs.Environments.{Entry, lookup, value_in, AgreeOn}
 use Rattle.st_semantics.specs.Parts.{constant, elements_at, elements, option_at, natural}
 use Rattle.st_semantics.specs.Forms.{Strict, Variable, Calls, Iterates, form_at, HasForm, by_itself}

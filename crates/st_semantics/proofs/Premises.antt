@@ -15,8 +15,8 @@ use Rattle.st_il.specs.declared.value.Value.{Value}
 use Rattle.st_il.specs.declared.value.Value.TheVariants as value
 use Rattle.st_semantics.specs.declared.outcome.Outcome.TheVariants.{Val, Deep}
 use Rattle.st_semantics.specs.declared.outcome.Outcomes.TheVariants.{Stopped}
-use Rattle.st_semantics.specs.Names.{Name, has_name, all_known, without}
-use Rattle.st_semantics.specs.Definitions.{syntaxes}
+use Rattle.st_il.specs.Names.{Name, has_name, all_known, without}
+use Rattle.st_il.specs.Definitions.{syntaxes}
 use Rattle.st_semantics.specs.Directions.{inputs_of}
 use Rattle.st_semantics.specs.Environments.{AgreeOn, TypedIn}
 use Rattle.st_semantics.specs.Parts.{binary}

@@ -8,7 +8,7 @@ use Rattle.st_il.specs.declared.definition.Listed.{Listed}
 use Rattle.st_il.specs.declared.definition.SyntaxDef.{SyntaxDef}
 use Rattle.st_il.specs.declared.value.Env.{Env}
 use Rattle.st_il.specs.Order.{text_cmp}
-use Rattle.st_semantics.specs.Names.{Name, has_name, all_known}
+use Rattle.st_il.specs.Names.{Name, has_name, all_known}
 use Rattle.st_semantics.specs.Environments.{Entry, lookup, value_in, IsSomeTyped, HasListed, names_of, listed_names, EnvOk, type_of, listed_in, listed_as, AgreeOn, TypedIn}
 use Rattle.st_semantics.proofs.Names.{bytes-path, or-left, and-both, true_false, Within}
 

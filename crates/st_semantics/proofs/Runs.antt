@@ -11,7 +11,7 @@ use Rattle.st_il.specs.declared.expression.IlPrem.{IlPrem, out-IlPrem}
 use Rattle.st_il.specs.declared.expression.IlPrem.TheOpen.{IlPrem-F}
 use Rattle.st_il.specs.declared.expression.Iteration.{Iteration}
 use Rattle.st_il.specs.declared.value.Value.{Value}
-use Rattle.st_semantics.specs.Names.{Name, has_name, all_known}
+use Rattle.st_il.specs.Names.{Name, has_name, all_known}
 use Rattle.st_semantics.specs.Iterations.{count_of, index_of}
 use Rattle.st_semantics.specs.Scopes.{listed_inside}
 use Rattle.st_semantics.specs.Variables.{vars, vars_of}

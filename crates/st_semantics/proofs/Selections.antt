@@ -7,7 +7,7 @@ use Rattle.st_il.specs.declared.definition.Il.{Il}
 use Rattle.st_il.specs.declared.definition.RuleDef.{RuleDef}
 use Rattle.st_il.specs.declared.expression.IlExp.{IlExp}
 use Rattle.st_il.specs.declared.expression.IlPrem.{IlPrem}
-use Rattle.st_semantics.specs.Names.{Name, has_name, all_known, without, least}
+use Rattle.st_il.specs.Names.{Name, has_name, all_known, without, least}
 use Rattle.st_semantics.specs.Parts.{option_list}
 use Rattle.st_semantics.specs.Variables.{vars_of, prem_vars, prems_vars}
 use Rattle.st_semantics.specs.Executable.{Class, Test, Equation, Judgement, class_of}

@@ -12,8 +12,8 @@ use Rattle.st_il.specs.declared.value.Env.{Env}
 use Rattle.st_il.specs.declared.value.Value.{Value}
 use Rattle.st_num.specs.declared.rule.RuleId.TheVariants.{M3, M4}
 use Rattle.st_semantics.specs.declared.outcome.Outcome.TheVariants.{Val}
-use Rattle.st_semantics.specs.Names.{Name, has_name, all_known}
-use Rattle.st_semantics.specs.Definitions.{syntaxes, rules_in, rules_from}
+use Rattle.st_il.specs.Names.{Name, has_name, all_known}
+use Rattle.st_il.specs.Definitions.{syntaxes, rules_in, rules_from}
 use Rattle.st_semantics.specs.Environments.{AgreeOn}
 use Rattle.st_semantics.specs.Parts.{binary, option_list}
 use Rattle.st_semantics.specs.Operators.{equality}
@@ -44,7 +44,7 @@ use Rattle.st_semantics.proofs.Restrict.{restricted, agree_picked, ok_restricted
 use Rattle.st_semantics.proofs.Clauses.{CanRun, AllCanRun, up_to, down_to, body_down, fits_all}
 use Rattle.st_semantics.proofs.CanRun.{can_run, clauses_can_be_run}
 use Rattle.st_semantics.proofs.Modes.{clauses_keep}
-use Rattle.st_semantics.specs.Definitions.{clauses_in}
+use Rattle.st_il.specs.Definitions.{clauses_in}
 
 pub le_or : (n m : ℕ) → (n ≤ m) ⊎ (m ≤ n)
 le_or zero m = inl (omega arith)

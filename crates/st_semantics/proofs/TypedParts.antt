@@ -20,7 +20,7 @@ use Rattle.st_type_table.specs.Meaning.{alias_of, itself}
 use Rattle.st_type_table.specs.HasType as type
 use Rattle.st_type_table.specs.HasType.{HasType, AllHaveType}
 use Rattle.st_semantics.specs.declared.outcome.Outcome.TheVariants.{Val, Deep}
-use Rattle.st_semantics.specs.Names.{flattened}
+use Rattle.st_il.specs.Names.{flattened}
 use Rattle.st_semantics.specs.Environments.{IsTypedValue, numbers_of, numbers_at, wrapped}
 use Rattle.st_semantics.specs.Parts.{limited}
 use Rattle.st_semantics.specs.Iterations.{gathered_as}

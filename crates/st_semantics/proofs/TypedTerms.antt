@@ -8,7 +8,7 @@ use Rattle.st_il.specs.declared.value.Value.{Value}
 use Rattle.st_type_table.specs.Same as same
 use Rattle.st_type_table.specs.Same.{Same, SameAll}
 use Rattle.st_type_table.proofs.UpLaws.{Same-up}
-use Rattle.st_semantics.specs.Definitions.{syntaxes}
+use Rattle.st_il.specs.Definitions.{syntaxes}
 use Rattle.st_semantics.specs.Directions.{inputs_or_all, mask, inputs_by, outputs_by, inputs_of}
 use Rattle.st_semantics.specs.Environments.{AreTypedValues}
 use Rattle.st_semantics.specs.Laws.{LawOfTerms}

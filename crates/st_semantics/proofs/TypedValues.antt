@@ -17,8 +17,8 @@ use Rattle.st_il.specs.declared.value.Env.{Env}
 use Rattle.st_il.specs.declared.value.Value.{Value}
 use Rattle.st_il.specs.declared.value.Value.TheVariants as value
 use Rattle.st_semantics.specs.declared.outcome.Outcome.TheVariants.{Val, Deep}
-use Rattle.st_semantics.specs.Names.{Name, has_name}
-use Rattle.st_semantics.specs.Definitions.{syntaxes, clauses_in, clauses_of, clauses_from}
+use Rattle.st_il.specs.Names.{Name, has_name}
+use Rattle.st_il.specs.Definitions.{syntaxes, clauses_in, clauses_of, clauses_from}
 use Rattle.st_semantics.specs.Environments.{Entry, lookup, value_in, IsTypedValue, AreTypedValues, IsSomeTyped, type_of, listed_as}
 use Rattle.st_semantics.specs.Iterations.{count_of, count_at, index_of, index_at, kind_of, Column, columns, size_of, heads, tails, bound_to, counted_to, rows, Over, spread}
 use Rattle.st_semantics.specs.Scopes.{indices, stepped_all, listed_inside}

@@ -9,7 +9,7 @@ use Rattle.st_il.specs.declared.expression.IlPrem.TheOpen.{IlPrem-F}
 use Rattle.st_il.specs.declared.expression.Iteration.{Iteration}
 use Rattle.st_il.specs.declared.expression.ListItem.{ListItem}
 use Rattle.st_il.specs.declared.expression.PathSeg.{PathSeg}
-use Rattle.st_semantics.specs.Names.{Name, has_name, all_known, among, without}
+use Rattle.st_il.specs.Names.{Name, has_name, all_known, among, without}
 use Rattle.st_semantics.specs.Directions.{inputs_by, outputs_by, mask}
 use Rattle.st_semantics.specs.Iterations.{count_of, index_of}
 use Rattle.st_semantics.specs.Variables.{vars, vars_of}

@@ -8,7 +8,7 @@ use Rattle.st_il.specs.declared.definition.Il.{Il}
 use Rattle.st_il.specs.declared.definition.IlDef.{IlDef}
 use Rattle.st_il.specs.declared.definition.IlDef.TheVariants.{Rule, Clause}
 use Rattle.st_il.specs.declared.definition.RuleDef.{RuleDef}
-use Rattle.st_semantics.specs.Definitions.{rules_from, rules_in, clauses_in, IsFirst}
+use Rattle.st_il.specs.Definitions.{rules_from, rules_in, clauses_in, IsFirst}
 use Rattle.st_semantics.specs.Variables.{have_otherwise}
 use Rattle.st_semantics.specs.ModeRules.{keeps_m3, keeps_m4, keeps_m6, keeps_m7, Relation, Leads, IsDirected, cites_nothing}
 

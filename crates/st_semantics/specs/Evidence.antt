@@ -6,7 +6,7 @@ use Rattle.st_il.specs.declared.definition.RuleDef.{RuleDef}
 use Rattle.st_il.specs.declared.value.Env.{Env}
 use Rattle.st_il.specs.declared.value.Value.{Value}
 use Rattle.st_semantics.specs.declared.verify_rule.VerifyRule.TheVariants.{V10, V13}
-use Rattle.st_semantics.specs.Definitions.{rules_of}
+use Rattle.st_il.specs.Definitions.{rules_of}
 use Rattle.st_semantics.specs.Directions.{inputs_of}
 use Rattle.st_semantics.specs.Evaluation.{tasks}
 use Rattle.st_semantics.specs.Variables.{have_otherwise}

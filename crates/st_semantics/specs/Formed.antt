@@ -9,8 +9,8 @@ use Rattle.st_il.specs.declared.expression.IlExp.{IlExp}
 use Rattle.st_il.specs.declared.expression.IlPrem.{IlPrem, out-IlPrem}
 use Rattle.st_il.specs.declared.expression.IlPrem.TheOpen.{IlPrem-F}
 use Rattle.st_il.specs.declared.expression.Iteration.{Iteration}
-use Rattle.st_semantics.specs.Names.{Name}
-use Rattle.st_semantics.specs.Definitions.{syntaxes, rules_in, clauses_in}
+use Rattle.st_il.specs.Names.{Name}
+use Rattle.st_il.specs.Definitions.{syntaxes, rules_in, clauses_in}
 use Rattle.st_semantics.specs.Parts.{Operation}
 use Rattle.st_semantics.specs.Forms.{HasForm, Strict, Variable, Calls, Iterates}
 use Rattle.st_semantics.specs.Iterations.{count_of}

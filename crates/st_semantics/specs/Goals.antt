@@ -3,8 +3,8 @@ use Rattle.std.specs.Prelude.{List, IsSomeAnd}
 use Rattle.st_il.specs.declared.definition.Il.{Il}
 use Rattle.st_il.specs.declared.definition.RelationDef.{RelationDef}
 use Rattle.st_il.specs.declared.value.Value.{Value}
-use Rattle.st_semantics.specs.Names.{Name}
-use Rattle.st_semantics.specs.Definitions.{syntaxes, relation_named}
+use Rattle.st_il.specs.Names.{Name}
+use Rattle.st_il.specs.Definitions.{syntaxes, relation_named}
 use Rattle.st_semantics.specs.Directions.{inputs_of}
 use Rattle.st_semantics.specs.Environments.{AreTypedValues}
 

@@ -10,8 +10,8 @@ use Rattle.st_il.specs.declared.expression.IlExp.{IlExp}
 use Rattle.st_il.specs.declared.expression.IlPrem.{IlPrem, out-IlPrem}
 use Rattle.st_il.specs.declared.expression.IlPrem.TheOpen.{IlPrem-F}
 use Rattle.st_il.specs.declared.expression.Iteration.{Iteration}
-use Rattle.st_semantics.specs.Names.{Name, has_name, all_known, without}
-use Rattle.st_semantics.specs.Definitions.{rules_in, clauses_in}
+use Rattle.st_il.specs.Names.{Name, has_name, all_known, without}
+use Rattle.st_il.specs.Definitions.{rules_in, clauses_in}
 use Rattle.st_semantics.specs.Environments.{listed_as, listed_names}
 use Rattle.st_semantics.specs.Iterations.{index_of, kind_of}
 use Rattle.st_semantics.specs.Scopes.{listed_inside}

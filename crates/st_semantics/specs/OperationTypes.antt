@@ -19,7 +19,7 @@ use Rattle.st_type_table.specs.Joins.{Joins}
 use Rattle.st_type_table.specs.Sub.{Sub}
 use Rattle.st_il.specs.declared.value.Value.{Value}
 use Rattle.st_semantics.specs.declared.outcome.Outcome.TheVariants.{Val}
-use Rattle.st_semantics.specs.Names.{Name}
+use Rattle.st_il.specs.Names.{Name}
 use Rattle.st_semantics.specs.Environments.{IsTypedValue, AreTypedValues}
 use Rattle.st_semantics.specs.Parts.{Operation}
 

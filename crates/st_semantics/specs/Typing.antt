@@ -11,8 +11,8 @@ use Rattle.st_il.specs.declared.expression.Iteration.{Iteration}
 use Rattle.st_il.specs.declared.ty.Ty.{Ty}
 use Rattle.st_il.specs.declared.ty.Ty.TheVariants as ty
 use Rattle.st_type_table.specs.Same.{Same}
-use Rattle.st_semantics.specs.Names.{Name}
-use Rattle.st_semantics.specs.Definitions.{syntaxes, relation_named, funs_in, clauses_in, rules_in}
+use Rattle.st_il.specs.Names.{Name}
+use Rattle.st_il.specs.Definitions.{syntaxes, relation_named, funs_in, clauses_in, rules_in}
 use Rattle.st_semantics.specs.Environments.{wrapped, type_of, listed_as}
 use Rattle.st_semantics.specs.Parts.{Operation}
 use Rattle.st_semantics.specs.Forms.{HasForm, Strict, Variable, Calls, Iterates}

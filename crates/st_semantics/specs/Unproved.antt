@@ -2,7 +2,7 @@
 -- is the typing of an internal language.
 use Rattle.std.specs.Prelude.{ℕ, ◌≤◌, false, None}
 use Rattle.st_il.specs.declared.definition.Il.{Il}
-use Rattle.st_semantics.specs.Names.{Name}
+use Rattle.st_il.specs.Names.{Name}
 use Rattle.st_semantics.specs.Breaches.{KeepModes}
 use Rattle.st_semantics.specs.Marks.{HasMark}
 use Rattle.st_semantics.specs.Chains.{DeepAt}

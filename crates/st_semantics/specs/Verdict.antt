@@ -12,8 +12,8 @@ use Rattle.st_il.specs.declared.definition.RuleDef.{RuleDef}
 use Rattle.st_semantics.specs.declared.verify_rule.VerifyRule.TheVariants.{V3, V4, V5, V6, V7, V11}
 use Rattle.st_semantics.specs.declared.notes.Judgement.{Judgement}
 use Rattle.st_semantics.specs.declared.notes.Notes.{Notes}
-use Rattle.st_semantics.specs.Names.{Name}
-use Rattle.st_semantics.specs.Definitions.{relation_named, rules_of, syntaxes}
+use Rattle.st_il.specs.Names.{Name}
+use Rattle.st_il.specs.Definitions.{relation_named, rules_of, syntaxes}
 use Rattle.st_semantics.specs.Directions.{inputs_of, IsStepping}
 use Rattle.st_semantics.specs.Environments.{EnvOk}
 use Rattle.st_semantics.specs.Goals.{AreInputs}

@@ -3,7 +3,7 @@
 ghost use Rattle.std.specs.Prelude.{◌≡◌, ◌++◌, [], ◌∷◌, map, IfOk};
 ghost use Rattle.st_il.specs.declared.expression.IlExp.{out-IlExp};
 ghost use Rattle.st_semantics.specs.Operands.{operands_at, sides, number_sides, item_exp, segment_exps};
-ghost use Rattle.st_semantics.specs.Names.{flattened};
+ghost use Rattle.st_il.specs.Names.{flattened};
 ghost use Rattle.st_semantics.specs.Iterations.{count_of};
 ghost use Rattle.st_semantics.specs.References.{exps_now};
 

@@ -11,7 +11,7 @@ use Rattle.st_il.specs.declared.ty.Ty.{Ty}
 use Rattle.st_il.specs.declared.value.Env.{Env}
 use Rattle.st_il.specs.declared.value.Value.{Value}
 use Rattle.st_match.specs.Matches.{IsMatchOfAll, AreAllMatches}
-use Rattle.st_semantics.specs.Names.{Name, has_name, flattened, all_known}
+use Rattle.st_il.specs.Names.{Name, has_name, flattened, all_known}
 use Rattle.st_semantics.specs.Directions.{inputs_by}
 use Rattle.st_semantics.specs.Environments.{IsTypedValue, AreTypedValues, wrapped, type_of, value_in, IsSomeTyped, listed_as}
 use Rattle.st_semantics.specs.Formed.{AreFormed}

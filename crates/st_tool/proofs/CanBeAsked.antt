@@ -10,7 +10,7 @@ use Rattle.st_order.specs.declared.relation_modes.Modes.{Modes}
 use Rattle.st_search.specs.Proper.{IsProper}
 use Rattle.st_search.specs.Searchable.{IsSearchable, HasNoOtherwise}
 use Rattle.st_semantics.specs.Breaches.{KeepModes}
-use Rattle.st_semantics.specs.Definitions.{syntaxes}
+use Rattle.st_il.specs.Definitions.{syntaxes}
 use Rattle.st_semantics.specs.Laws.{LawOfTerms, LawOfJudgements}
 use Rattle.st_semantics.specs.Marks.{HasMark}
 use Rattle.st_semantics.specs.Typing.{ConclusionsAreTyped}

@@ -7,7 +7,7 @@ use Rattle.st_il.specs.declared.expression.IlExp.{IlExp}
 use Rattle.st_num.specs.declared.fault.Fault.{Fault}
 use Rattle.st_num.specs.declared.fault.Fault.TheVariants.{Refused, Memory}
 use Rattle.st_semantics.specs.Calls.{ValueAt}
-use Rattle.st_semantics.specs.Definitions.{syntaxes}
+use Rattle.st_il.specs.Definitions.{syntaxes}
 use Rattle.st_semantics.specs.Formed.{IsFormed}
 use Rattle.st_semantics.specs.declared.outcome.Outcome.{Outcome}
 use Rattle.st_elab_law.specs.Agreement.{decls_in}

@@ -6,8 +6,8 @@ use Rattle.st_il.specs.declared.definition.Il.{Il}
 use Rattle.st_il.specs.declared.definition.RelationDef.{RelationDef}
 use Rattle.st_il.specs.declared.ty.Ty.{Ty}
 use Rattle.st_order.specs.Known.{all_now}
-use Rattle.st_semantics.specs.Names.{Name}
-use Rattle.st_semantics.specs.Definitions.{relations, relation_named}
+use Rattle.st_il.specs.Names.{Name}
+use Rattle.st_il.specs.Definitions.{relations, relation_named}
 use Rattle.st_semantics.specs.Directions.{mask, inputs_by}
 use Rattle.st_tool.specs.Searches.{AreInputTypes}
 use Rattle.st_tool.specs.inner.Asking.{IsDeclared}

@@ -7,7 +7,7 @@ use Rattle.st_num.specs.declared.memory.NoMemory.{NoMemory}
 use Rattle.st_search.specs.declared.answer.Chain.{Chain}
 use Rattle.st_search.specs.declared.answer.Output.{Output}
 use Rattle.st_search.specs.Answers.{goal_of, AreOutputs, IsChainOf, values_in}
-use Rattle.st_semantics.specs.Names.{Name}
+use Rattle.st_il.specs.Names.{Name}
 use Rattle.st_semantics.specs.Derivation.{Derivable}
 use Rattle.st_semantics.specs.Laws.{LawOfDepthOfTrees}
 use Rattle.st_semantics.specs.Transcript.{Term}

@@ -1,7 +1,7 @@
 -- A run that has come to its end has its transcript.
 use Rattle.std.proofs.Common.{◌≡◌, ℕ, suc, ◌+◌, ◌-◌, List, [], ◌∷◌, ◌++◌, length, ◌∙◌, refl, subst, arith, append_assoc, length-append}
 use Rattle.st_il.specs.declared.definition.Il.{Il}
-use Rattle.st_semantics.specs.Names.{Name}
+use Rattle.st_il.specs.Names.{Name}
 use Rattle.st_semantics.specs.Transcript as run
 use Rattle.st_semantics.specs.Transcript.{Term, Transcript}
 use Rattle.st_tool.specs.declared.transcript.Ending.{Ending}

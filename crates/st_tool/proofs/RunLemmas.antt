@@ -6,7 +6,7 @@ use Rattle.st_num.specs.declared.memory.NoMemory.{NoMemory}
 use Rattle.st_il.specs.declared.definition.Il.{Il}
 use Rattle.st_search.specs.declared.answer.Chain.{Chain}
 use Rattle.st_search.specs.Answers.{goal_of, IsChainOf}
-use Rattle.st_semantics.specs.Names.{Name}
+use Rattle.st_il.specs.Names.{Name}
 use Rattle.st_semantics.specs.Goals.{AreInputs}
 use Rattle.st_semantics.specs.Transcript.{Term}
 use Rattle.st_answers.specs.declared.answer.Answer.{Answer}

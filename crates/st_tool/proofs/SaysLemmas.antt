@@ -15,7 +15,7 @@ use Rattle.st_elab_law.specs.Agreement.{decls_in}
 use Rattle.st_elab_table.specs.declared.decls.Decls.{Decls}
 use Rattle.st_order.specs.declared.relation_modes.Modes.{Modes}
 use Rattle.st_search.specs.Searchable.{HasNoOtherwise}
-use Rattle.st_semantics.specs.Names.{Name}
+use Rattle.st_il.specs.Names.{Name}
 use Rattle.st_semantics.specs.Goals.{AreInputs}
 use Rattle.st_semantics.specs.Marks.{HasMark}
 use Rattle.st_semantics.specs.Transcript.{Term}

@@ -10,7 +10,7 @@ use Rattle.st_il.specs.Order.{values_cmp}
 use Rattle.st_il.proofs.OrderLaws.{values_cmp_order}
 use Rattle.st_search.specs.declared.answer.Output.{Output}
 use Rattle.st_search.specs.Answers.{goal_of, IsOutput, AreOutputs, values_in}
-use Rattle.st_semantics.specs.Names.{Name}
+use Rattle.st_il.specs.Names.{Name}
 use Rattle.st_semantics.specs.Derivation.{Derivable}
 use Rattle.st_semantics.specs.Laws.{LawOfDepthOfTrees}
 use Rattle.st_semantics.specs.Transcript.{Term, IsNext, GoesOn}

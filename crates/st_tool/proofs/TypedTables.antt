@@ -6,7 +6,7 @@ use Rattle.st_il.specs.declared.definition.IlDef.{IlDef}
 use Rattle.st_il.specs.declared.definition.IlDef.TheVariants.{Syntax, Var, Relation, Rule, Fun, Clause}
 use Rattle.st_il.specs.declared.definition.SyntaxDef.{SyntaxDef}
 use Rattle.st_type_table.specs.Breach.{AllHold, conditions_on, IsSound}
-use Rattle.st_semantics.specs.Definitions.{syntaxes_in}
+use Rattle.st_il.specs.Definitions.{syntaxes_in}
 use Rattle.st_ilcheck.specs.Declarations.{AreNamed}
 use Rattle.st_ilcheck.specs.Typed.{Typed, AllKeep, Breaks}
 use Rattle.st_eval.proofs.IsFormedLemmas.{Told-holds, none-left}

@@ -5,7 +5,7 @@ use Rattle.st_outside.specs.Sink.{Takes}
 use Rattle.st_il.specs.declared.definition.Il.{Il as Language}
 use Rattle.st_semantics.specs.declared.outcome.Outcome.{Outcome as Value}
 use Rattle.st_semantics.specs.declared.outcome.Outcome.TheVariants as outcome
-use Rattle.st_semantics.specs.Names.{Name}
+use Rattle.st_il.specs.Names.{Name}
 use Rattle.st_semantics.specs.Transcript.{Term as Start}
 use Rattle.st_tool.specs.declared.loads.Loaded.{Loaded}
 use Rattle.st_tool.specs.declared.loads.Loaded.TheVariants.{Given, Failed, TooLong}

@@ -3,7 +3,7 @@ use Rattle.std.specs.Prelude.{ℕ, ◌+◌, ◌-◌, List, [], ◌∷◌, ◌++�
 use Rattle.std.specs.List.{flat_map}
 use Rattle.st_il.specs.declared.value.Value.{Value}
 use Rattle.st_search.specs.declared.answer.Chain.{Chain}
-use Rattle.st_semantics.specs.Names.{Name}
+use Rattle.st_il.specs.Names.{Name}
 use Rattle.st_semantics.specs.Transcript.{Term}
 use Rattle.st_term.specs.TermText.{term_text}
 use Rattle.st_tool.specs.declared.transcript.Ending.{Ending}

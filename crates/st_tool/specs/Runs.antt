@@ -8,8 +8,8 @@ use Rattle.st_il.specs.declared.value.Value.{Value}
 use Rattle.st_il.specs.Order.{values_cmp}
 use Rattle.st_search.specs.declared.answer.Chain.{Chain}
 use Rattle.st_search.specs.Answers.{goal_of, IsChainOf}
-use Rattle.st_semantics.specs.Names.{Name}
-use Rattle.st_semantics.specs.Definitions.{syntaxes, relation_named}
+use Rattle.st_il.specs.Names.{Name}
+use Rattle.st_il.specs.Definitions.{syntaxes, relation_named}
 use Rattle.st_semantics.specs.Directions.{outputs_of}
 use Rattle.st_semantics.specs.Environments.{AreTypedValues}
 use Rattle.st_semantics.specs.Chains.{DeepAt}

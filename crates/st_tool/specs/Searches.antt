@@ -8,8 +8,8 @@ use Rattle.st_il.specs.declared.definition.Il.{Il}
 use Rattle.st_il.specs.declared.definition.RelationDef.{RelationDef}
 use Rattle.st_il.specs.declared.ty.Ty.{Ty}
 use Rattle.st_search.specs.Searchable.{HasNoOtherwise}
-use Rattle.st_semantics.specs.Names.{Name}
-use Rattle.st_semantics.specs.Definitions.{relation_named}
+use Rattle.st_il.specs.Names.{Name}
+use Rattle.st_il.specs.Definitions.{relation_named}
 use Rattle.st_semantics.specs.Directions.{inputs_of}
 use Rattle.st_semantics.specs.Goals.{AreInputs}
 use Rattle.st_semantics.specs.Marks.{Mark, HasMark}

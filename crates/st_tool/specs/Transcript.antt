@@ -2,7 +2,7 @@
 use Rattle.std.specs.Prelude.{◌≡◌, ℕ, List, [], ◌∷◌}
 use Rattle.st_il.specs.declared.definition.Il.{Il}
 use Rattle.st_il.specs.declared.value.Value.TheVariants.{Case}
-use Rattle.st_semantics.specs.Names.{Name}
+use Rattle.st_il.specs.Names.{Name}
 use Rattle.st_semantics.specs.Transcript as run
 use Rattle.st_semantics.specs.Transcript.{Term, Transcript}
 use Rattle.st_answers.specs.declared.status.Status.{Status}

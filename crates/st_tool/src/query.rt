@@ -7,7 +7,7 @@ ghost use Rattle.std.specs.Prelude.{◌≡◌, ◌<◌, ◌^◌, length, IfOk, I
 ghost use Rattle.st_num.specs.declared.fault.Fault.TheVariants as fault;
 ghost use Rattle.st_semantics.specs.Breaches.{KeepModes};
 ghost use Rattle.st_semantics.specs.Calls.{ValueAt};
-ghost use Rattle.st_semantics.specs.Definitions.{syntaxes};
+ghost use Rattle.st_il.specs.Definitions.{syntaxes};
 ghost use Rattle.st_semantics.specs.Formed.{IsFormed};
 ghost use Rattle.st_ilcheck.specs.Typed.{Typed};
 ghost use Rattle.st_elab_law.specs.Agreement.{decls_in};

@@ -18,8 +18,8 @@ use Rattle.st_il.specs.declared.template.Template.TheVariants as template
 use Rattle.st_il.specs.declared.ty.Ty.TheVariants.{Name as NameOf}
 use Rattle.st_il.specs.Small.{atom_exp, rule_def, il_of}
 use Rattle.st_il.specs.Template.{template_height, holes}
-use Rattle.st_semantics.specs.Names.{Name}
-use Rattle.st_semantics.specs.Definitions.{relations_in, syntaxes_in, clauses_in, rules_in, rules_from, relations, syntaxes, relation_named, IsRelation, rules_of}
+use Rattle.st_il.specs.Names.{Name}
+use Rattle.st_il.specs.Definitions.{relations_in, syntaxes_in, clauses_in, rules_in, rules_from, relations, syntaxes, relation_named, IsRelation, rules_of}
 use Rattle.st_semantics.specs.Directions.{direction_by, inputs_or_all, mask}
 
 -- its definitions

@@ -18,8 +18,8 @@ use Rattle.st_type_table.specs.Meaning.{itself as means}
 use Rattle.st_type_table.specs.Same.{SameAll, equal, none, more}
 use Rattle.st_semantics.specs.declared.notes.Judgement.{Judgement}
 use Rattle.st_semantics.specs.declared.notes.Notes.{Notes}
-use Rattle.st_semantics.specs.Names.{Name}
-use Rattle.st_semantics.specs.Definitions.{relation_named, syntaxes}
+use Rattle.st_il.specs.Names.{Name}
+use Rattle.st_il.specs.Definitions.{relation_named, syntaxes}
 use Rattle.st_semantics.specs.Directions.{inputs_of, outputs_of, inputs_by, IsStepping}
 use Rattle.st_semantics.specs.Environments.{AreTypedValues}
 use Rattle.st_semantics.specs.Goals.{AreInputs}

@@ -21,7 +21,7 @@ use Rattle.st_il.proofs.OrderLaws.{value_cmp_order}
 use Rattle.st_semantics.specs.declared.outcome.Outcome.TheVariants.{Val}
 use Rattle.st_semantics.specs.declared.notes.Notes.{Notes}
 use Rattle.st_semantics.specs.declared.verify_rule.VerifyRule.TheVariants.{V7, V9, V10}
-use Rattle.st_semantics.specs.Definitions.{relation_named, rules_of, syntaxes}
+use Rattle.st_il.specs.Definitions.{relation_named, rules_of, syntaxes}
 use Rattle.st_semantics.specs.Directions.{inputs_of}
 use Rattle.st_semantics.specs.Calls.{CallAt}
 use Rattle.st_semantics.specs.Checks.{Answer, and_then, asks, evaluates, evaluate_each, checking_depth}

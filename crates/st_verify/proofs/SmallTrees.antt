@@ -11,8 +11,8 @@ use Rattle.st_il.specs.declared.value.Value.{Value}
 use Rattle.st_il.specs.declared.value.Value.TheVariants.{Case as CaseOf}
 use Rattle.st_il.specs.Small.{atom_exp, il_of}
 use Rattle.st_semantics.specs.declared.outcome.Outcome.TheVariants.{Val}
-use Rattle.st_semantics.specs.Names.{Name}
-use Rattle.st_semantics.specs.Definitions.{syntaxes, IsRelation, rules_of}
+use Rattle.st_il.specs.Names.{Name}
+use Rattle.st_il.specs.Definitions.{syntaxes, IsRelation, rules_of}
 use Rattle.st_semantics.specs.Directions.{inputs_of, outputs_of, inputs_by, outputs_by}
 use Rattle.st_semantics.specs.Evaluation.{tasks}
 use Rattle.st_semantics.specs.Holding.{HaveValues}

@@ -26,8 +26,8 @@ use Rattle.st_type_table.specs.Meaning.{Means}
 use Rattle.st_type_table.specs.Meaning.{itself as means_itself}
 use Rattle.st_type_table.specs.Same.{Same}
 use Rattle.st_type_table.proofs.PositionLemmas.{names-Name}
-use Rattle.st_semantics.specs.Definitions.{syntaxes, rules_from}
-use Rattle.st_semantics.specs.Names.{Name, has_name, flattened}
+use Rattle.st_il.specs.Definitions.{syntaxes, rules_from}
+use Rattle.st_il.specs.Names.{Name, has_name, flattened}
 use Rattle.st_semantics.specs.OperationTypes.{Level}
 use Rattle.st_semantics.specs.Variables.{called}
 use Rattle.st_semantics.proofs.Elements.{All-back}

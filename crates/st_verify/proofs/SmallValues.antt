@@ -16,7 +16,7 @@ use Rattle.st_semantics.specs.declared.outcome.Outcome.{Outcome}
 use Rattle.st_semantics.specs.declared.outcome.Outcome.TheVariants.{Val}
 use Rattle.st_semantics.specs.declared.outcome.Outcomes.{Outcomes}
 use Rattle.st_semantics.specs.declared.outcome.Outcomes.TheVariants.{Values}
-use Rattle.st_semantics.specs.Names.{Name, all_known}
+use Rattle.st_il.specs.Names.{Name, all_known}
 use Rattle.st_semantics.specs.Environments.{Entry, EnvOk, HasListed}
 use Rattle.st_semantics.specs.Parts.{Operation, limited}
 use Rattle.st_semantics.specs.Forms.{HasForm, Strict, Variable, Calls, Iterates, by_itself}

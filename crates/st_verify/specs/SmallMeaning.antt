@@ -8,7 +8,7 @@ use Rattle.st_il.specs.declared.value.Value.TheVariants.{Case}
 use Rattle.st_il.specs.Small.{IsSmall, il_of}
 use Rattle.st_semantics.specs.declared.notes.Notes.{Notes}
 use Rattle.st_semantics.specs.declared.verify_rule.VerifyRule.{VerifyRule}
-use Rattle.st_semantics.specs.Names.{Name}
+use Rattle.st_il.specs.Names.{Name}
 use Rattle.st_semantics.specs.Accepts.{ReadsTo}
 use Rattle.st_semantics.specs.Breaches.{KeepModes}
 use Rattle.st_semantics.specs.Derivation.{HasTree, Derivable}

@@ -1,7 +1,7 @@
 -- What stands under names.
 use Rattle.std.specs.Prelude.{ℕ, List, [], unwrap_or}
 use Rattle.std.specs.Borrow.{Bor}
-use Rattle.st_semantics.specs.Names.{Name}
+use Rattle.st_il.specs.Names.{Name}
 use Rattle.st_order.specs.Known.{all_now, at}
 
 -- what stands under a name, in order

@@ -3,7 +3,7 @@ use Rattle.std.specs.Prelude.{◌≡◌, ℕ, List, Option, Some, None, find, sl
 use Rattle.std.specs.Borrow.{Bor}
 use Rattle.st_il.specs.declared.definition.RelationDef.{RelationDef}
 use Rattle.st_order.specs.Known.{all_now}
-use Rattle.st_semantics.specs.Names.{Name}
+use Rattle.st_il.specs.Names.{Name}
 
 -- among these relations the first of a name, by its number, if there is one
 abbrev pub IsFirstNamed : List (Bor RelationDef) → Name → Option ℕ → Type 0

@@ -5,8 +5,8 @@ use Rattle.std.specs.Result.{result_ok}
 use Rattle.st_il.specs.declared.definition.Il.{Il}
 use Rattle.st_il.specs.declared.definition.RuleDef.{RuleDef}
 use Rattle.st_modes.specs.inner.Citations.{rules_under}
-use Rattle.st_semantics.specs.Names.{Name}
-use Rattle.st_semantics.specs.Definitions.{rules_of}
+use Rattle.st_il.specs.Names.{Name}
+use Rattle.st_il.specs.Definitions.{rules_of}
 use Rattle.st_semantics.specs.OrderOf.{order_of}
 
 -- under each name stand the rules of the relation of that name

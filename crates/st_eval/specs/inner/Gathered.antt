@@ -12,7 +12,7 @@ use Rattle.st_semantics.specs.declared.outcome.Outcome.{Outcome}
 use Rattle.st_semantics.specs.declared.outcome.Outcome.TheVariants.{Val, NoValue, Deep}
 use Rattle.st_semantics.specs.declared.outcome.Outcomes.{Outcomes}
 use Rattle.st_semantics.specs.declared.outcome.Outcomes.TheVariants.{Values, Stopped}
-use Rattle.st_semantics.specs.Names.{Name, has_name, all_known, without}
+use Rattle.st_il.specs.Names.{Name, has_name, all_known, without}
 use Rattle.st_semantics.specs.Environments.{Entry, value_in, type_of, listed_as, IsTypedValue}
 use Rattle.st_semantics.specs.Parts.{option_list}
 use Rattle.st_semantics.specs.Iterations.{count_of, gathered}

@@ -1,7 +1,7 @@
 -- Names behind references.
 use Rattle.std.specs.Prelude.{List, map}
 use Rattle.std.specs.Borrow.{Bor}
-use Rattle.st_semantics.specs.Names.{Name}
+use Rattle.st_il.specs.Names.{Name}
 
 -- the names behind references
 abbrev pub names_now : List (Bor Name) → List Name

@@ -5,7 +5,7 @@ use Rattle.st_il.specs.declared.expression.IlExp.TheOpen.{IlExp-F}
 use Rattle.st_il.specs.declared.expression.IlPrem.{IlPrem}
 use Rattle.st_il.specs.declared.expression.Iteration.{Iteration}
 use Rattle.st_type_table.specs.Leads.{names_in}
-use Rattle.st_semantics.specs.Names.{Name, flattened}
+use Rattle.st_il.specs.Names.{Name, flattened}
 use Rattle.st_semantics.specs.Iterations.{count_of, index_of, kind_of}
 use Rattle.st_semantics.specs.OperationTypes.{Level}
 use Rattle.st_semantics.specs.Variables.{called, called_in, prem_called}

@@ -7,7 +7,7 @@ use Rattle.st_il.specs.declared.ty.Ty.{Ty}
 use Rattle.st_il.specs.declared.ty.Ty.TheVariants as ty
 use Rattle.st_il.specs.declared.type_rule.TypeRule.{TypeRule}
 use Rattle.st_il.specs.declared.type_rule.TypeRule.TheVariants.{T14}
-use Rattle.st_semantics.specs.Definitions.{syntaxes}
+use Rattle.st_il.specs.Definitions.{syntaxes}
 use Rattle.st_semantics.specs.Iterations.{count_of}
 use Rattle.st_ilcheck.specs.Parts.{standing}
 use Rattle.st_ilcheck.specs.Rules.{AllAre, Told}

@@ -3,8 +3,8 @@ use Rattle.std.specs.Prelude.{◌≡◌, false, List, [], ◌∷◌, ◌++◌, m
 use Rattle.st_il.specs.declared.definition.IlDef.{IlDef}
 use Rattle.st_il.specs.declared.definition.IlDef.TheVariants.{Syntax, Var, Relation, Rule, Fun, Clause}
 use Rattle.st_il.specs.declared.definition.RuleDef.{RuleDef}
-use Rattle.st_semantics.specs.Names.{Name, has_name}
-use Rattle.st_semantics.specs.Definitions.{rules_in}
+use Rattle.st_il.specs.Names.{Name, has_name}
+use Rattle.st_il.specs.Definitions.{rules_in}
 use Rattle.st_ilcheck.specs.declared.declaring.Declared.{Declared}
 use Rattle.st_ilcheck.specs.inner.Names.{is_pair}
 use Rattle.st_ilcheck.specs.Declarations.{syntax_names, variable_names, relation_names, function_names, IsMode}

@@ -7,8 +7,8 @@ use Rattle.st_il.specs.declared.definition.SyntaxDef.{SyntaxDef}
 use Rattle.st_il.specs.declared.expression.IlExp.TheOpen.{PathSeg-F}
 use Rattle.st_il.specs.declared.expression.PathSeg.{PathSeg, out-PathSeg}
 use Rattle.st_il.specs.declared.ty.Ty.{Ty}
-use Rattle.st_semantics.specs.Names.{Name}
-use Rattle.st_semantics.specs.Definitions.{relations_in, funs_in}
+use Rattle.st_il.specs.Names.{Name}
+use Rattle.st_il.specs.Definitions.{relations_in, funs_in}
 use Rattle.st_ilcheck.specs.FoundTypes.{IsFieldOf, IsElementOf}
 use Rattle.st_ilcheck.specs.Rules.{LeadsTo}
 

@@ -8,7 +8,7 @@ use Rattle.st_il.specs.declared.expression.Iteration.{Iteration}
 use Rattle.st_il.specs.declared.expression.ListItem.{ListItem}
 use Rattle.st_il.specs.declared.value.Env.{Env}
 use Rattle.st_il.specs.declared.value.Value.{Value}
-use Rattle.st_semantics.specs.Names.{Name, flattened, has_name}
+use Rattle.st_il.specs.Names.{Name, flattened, has_name}
 use Rattle.st_semantics.specs.Environments.{value_in}
 use Rattle.st_semantics.specs.Operands.{item_exp}
 use Rattle.st_semantics.specs.Iterations.{count_of, index_of}

@@ -10,7 +10,7 @@ use Rattle.st_il.specs.declared.value.Env.{Env}
 use Rattle.st_il.specs.declared.value.Value.{Value}
 use Rattle.st_il.specs.declared.value.Value.TheVariants as value
 use Rattle.st_semantics.specs.declared.outcome.Outcome.TheVariants.{Val}
-use Rattle.st_semantics.specs.Names.{Name}
+use Rattle.st_il.specs.Names.{Name}
 use Rattle.st_semantics.specs.Environments.{value_in}
 use Rattle.st_semantics.specs.Operands.{item_exp}
 use Rattle.st_semantics.specs.Forms.{spliced}

@@ -6,7 +6,7 @@ use Rattle.st_il.specs.declared.definition.SyntaxDef.{SyntaxDef}
 use Rattle.st_il.specs.declared.expression.IlExp.{IlExp}
 use Rattle.st_il.specs.declared.value.Env.{Env}
 use Rattle.st_il.specs.declared.value.Value.{Value}
-use Rattle.st_semantics.specs.Names.{Name, has_name}
+use Rattle.st_il.specs.Names.{Name, has_name}
 use Rattle.st_semantics.specs.Environments.{AgreeOn, TypedIn, names_of, IsOrdered}
 use Rattle.st_semantics.specs.Formed.{AreFormed}
 use Rattle.st_semantics.specs.Patterns.{is_pattern}

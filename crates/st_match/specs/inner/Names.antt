@@ -1,6 +1,6 @@
 -- Names in byte order, each once.
 use Rattle.std.specs.Prelude.{◌≡◌, ◌≤◌, ℕ, ◌||◌, List, ◌∷◌, ◌++◌, length, take, drop, Option, Some, None, bytes_eq}
-use Rattle.st_semantics.specs.Names.{Name, has_name}
+use Rattle.st_il.specs.Names.{Name, has_name}
 use Rattle.st_semantics.specs.inner.Sorted.{AreSorted}
 
 -- the names stand in order, and a name more is among them

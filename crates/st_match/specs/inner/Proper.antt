@@ -6,7 +6,7 @@ use Rattle.st_num.specs.Texts.{IsText}
 use Rattle.st_il.specs.declared.value.Value.{Value}
 use Rattle.st_il.specs.declared.value.Value.TheOpen.{Value-F}
 use Rattle.st_il.specs.Value.{texts_of}
-use Rattle.st_semantics.specs.Names.{Name}
+use Rattle.st_il.specs.Names.{Name}
 use Rattle.st_semantics.specs.Environments.{numbers_of}
 
 -- all texts in a value are texts, and all its numbers in range

@@ -3,8 +3,8 @@ use Rattle.std.specs.Prelude.{◌≡◌, ℕ, Bool, true, false, List, [], ◌�
 use Rattle.std.specs.Borrow.{Bor}
 use Rattle.st_il.specs.declared.definition.IlDef.{IlDef}
 use Rattle.st_il.specs.declared.definition.RuleDef.{RuleDef}
-use Rattle.st_semantics.specs.Names.{Name, flattened}
-use Rattle.st_semantics.specs.Definitions.{rules_in, rules_from, clauses_in, clauses_from, funs_in}
+use Rattle.st_il.specs.Names.{Name, flattened}
+use Rattle.st_il.specs.Definitions.{rules_in, rules_from, clauses_in, clauses_from, funs_in}
 use Rattle.st_semantics.specs.Variables.{relations_cited}
 use Rattle.st_modes.specs.declared.citations.Citations.{Citations}
 use Rattle.st_order.specs.Known.{all_now, at}

@@ -1,7 +1,7 @@
 -- Under each name those that cite it.
 use Rattle.std.specs.Prelude.{◌≡◌, List}
 use Rattle.st_il.specs.declared.definition.IlDef.{IlDef}
-use Rattle.st_semantics.specs.Names.{Name, has_name}
+use Rattle.st_il.specs.Names.{Name, has_name}
 use Rattle.st_modes.specs.inner.Citations.{cited_by_relation, called_by_function}
 use Rattle.st_modes.specs.inner.Reaching.{Entries, cited_under}
 

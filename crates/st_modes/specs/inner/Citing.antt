@@ -2,7 +2,7 @@
 use Rattle.std.specs.Prelude.{List, ◌++◌, map}
 use Rattle.st_il.specs.declared.definition.ClauseDef.{ClauseDef}
 use Rattle.st_il.specs.declared.definition.RuleDef.{RuleDef}
-use Rattle.st_semantics.specs.Names.{Name, flattened}
+use Rattle.st_il.specs.Names.{Name, flattened}
 use Rattle.st_semantics.specs.Variables.{called, called_in, prem_called}
 
 -- the functions that stand in a rule

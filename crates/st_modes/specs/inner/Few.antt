@@ -3,7 +3,7 @@ use Rattle.std.specs.Prelude.{◌<◌, ◌^◌, List, length, All}
 use Rattle.st_il.specs.declared.definition.IlDef.{IlDef}
 use Rattle.st_il.specs.declared.definition.IlDef.TheVariants as def
 use Rattle.st_il.specs.declared.definition.RuleDef.{RuleDef}
-use Rattle.st_semantics.specs.Definitions.{rules_in}
+use Rattle.st_il.specs.Definitions.{rules_in}
 
 -- the definition has fewer than 2^32 premises, where it is a rule
 abbrev pub HasFewPremises : IlDef → Type 0

@@ -6,8 +6,8 @@ use Rattle.st_il.specs.declared.definition.RelationDef.{RelationDef}
 use Rattle.st_il.specs.declared.definition.RuleDef.{RuleDef}
 use Rattle.st_semantics.specs.declared.unfit.Unfit.{Unfit}
 use Rattle.st_semantics.specs.declared.unfit.Unfit.TheVariants as unfit
-use Rattle.st_semantics.specs.Names.{Name, has_name}
-use Rattle.st_semantics.specs.Definitions.{relations, rules_in, funs_in, clauses_of, IsFirst}
+use Rattle.st_il.specs.Names.{Name, has_name}
+use Rattle.st_il.specs.Definitions.{relations, rules_in, funs_in, clauses_of, IsFirst}
 use Rattle.st_semantics.specs.Marks.{LacksClauses, IsUnfit, NeedsUnfit}
 use Rattle.st_modes.specs.declared.indexed.Indexed.{Indexed}
 use Rattle.st_modes.specs.declared.needs.Marked.{Marked}

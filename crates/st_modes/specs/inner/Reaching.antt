@@ -1,7 +1,7 @@
 -- What is reached from names over citations, and how far a walk along them has come.
 use Rattle.std.specs.Prelude.{◌≡◌, ◌≤◌, ◌+◌, ◌↔◌, ℕ, true, List, [], ◌++◌, length, take, map, unwrap_or}
 use Rattle.std.specs.Borrow.{Bor}
-use Rattle.st_semantics.specs.Names.{Name, has_name, without, flattened}
+use Rattle.st_il.specs.Names.{Name, has_name, without, flattened}
 use Rattle.st_order.specs.inner.Index.{names_in, SameNames}
 use Rattle.st_order.specs.Known.{at}
 

@@ -6,8 +6,8 @@ use Rattle.st_il.specs.declared.definition.Il.{Il}
 use Rattle.st_il.specs.declared.definition.IlDef.{IlDef}
 use Rattle.st_il.specs.declared.definition.IlDef.TheVariants as def
 use Rattle.st_il.specs.declared.definition.RelationDef.{RelationDef}
-use Rattle.st_semantics.specs.Names.{Name}
-use Rattle.st_semantics.specs.Definitions.{relations_in}
+use Rattle.st_il.specs.Names.{Name}
+use Rattle.st_il.specs.Definitions.{relations_in}
 use Rattle.st_semantics.specs.Directions.{direction}
 use Rattle.st_modes.specs.declared.relations.Relations.{Relations}
 use Rattle.st_order.specs.Known.{AreDirections, at}

@@ -1,7 +1,7 @@
 -- Which of some targets is the first that a name leads to.
 use Rattle.std.specs.Prelude.{◌≡◌, ◌≤◌, ◌<◌, ℕ, min, Bool, true, false, List, [], ◌∷◌, ◌++◌, length, take, slice_get, is_some, Option, Some, None}
 use Rattle.std.specs.Borrow.{Bor}
-use Rattle.st_semantics.specs.Names.{Name, has_name}
+use Rattle.st_il.specs.Names.{Name, has_name}
 use Rattle.st_order.specs.Known.{at}
 use Rattle.st_modes.specs.inner.Reaching.{Reached, AreReached}
 

@@ -3,7 +3,7 @@ use Rattle.std.specs.Prelude.{◌≡◌, Bool, true, false, ◌&&◌, List, Opti
 use Rattle.std.specs.List.{list_all}
 use Rattle.st_il.specs.declared.expression.IlPrem.{IlPrem}
 use Rattle.st_il.specs.declared.expression.Iteration.{Iteration}
-use Rattle.st_semantics.specs.Names.{Name, all_known, without}
+use Rattle.st_il.specs.Names.{Name, all_known, without}
 use Rattle.st_semantics.specs.Iterations.{count_of, index_of}
 use Rattle.st_semantics.specs.Variables.{prem_vars}
 use Rattle.st_semantics.specs.Executable as run

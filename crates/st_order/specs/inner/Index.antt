@@ -1,7 +1,7 @@
 -- Names in sets and lists of references.
 use Rattle.std.specs.Prelude.{◌≡◌, ℕ, List, map, Option, bytes_eq, position}
 use Rattle.std.specs.Borrow.{Bor}
-use Rattle.st_semantics.specs.Names.{Name, has_name}
+use Rattle.st_il.specs.Names.{Name, has_name}
 
 -- the names that are referred to
 abbrev pub names_in : List (Bor (List ℕ)) → List Name

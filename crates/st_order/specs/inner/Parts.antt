@@ -6,7 +6,7 @@ use Rattle.st_il.specs.declared.expression.IlExp.{IlExp, fold-IlExp}
 use Rattle.st_il.specs.declared.expression.Iteration.{Iteration, fold-Iteration}
 use Rattle.st_il.specs.declared.expression.ListItem.{ListItem, fold-ListItem}
 use Rattle.st_il.specs.declared.expression.PathSeg.{PathSeg, fold-PathSeg}
-use Rattle.st_semantics.specs.Names.{Name, flattened}
+use Rattle.st_il.specs.Names.{Name, flattened}
 use Rattle.st_semantics.specs.Operands.{item_at, segment_at}
 use Rattle.st_semantics.specs.Variables.{Counted, counted_at, vars_at, called_at}
 use Rattle.st_semantics.specs.Patterns.{Bound, BoundCount, bound_at, bound_count_at}

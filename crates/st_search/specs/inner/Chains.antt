@@ -1,7 +1,7 @@
 -- Chains of at most so many goals, and goals from which no chain leads far.
 use Rattle.std.specs.Prelude.{◌≡◌, ℕ, suc, ◌≤◌, List, [], ◌∷◌, length, map, All, Option, Some, None}
 use Rattle.st_il.specs.declared.definition.Il.{Il}
-use Rattle.st_semantics.specs.Names.{Name}
+use Rattle.st_il.specs.Names.{Name}
 use Rattle.st_semantics.specs.Goals.{Goal, IsGoal}
 use Rattle.st_semantics.specs.Chains.{Linked, last_of, RuleMeets}
 use Rattle.st_search.specs.declared.answer.Chain.{Chain}

@@ -2,7 +2,7 @@
 use Rattle.std.specs.Prelude.{◌≡◌, List, Result}
 use Rattle.std.specs.Borrow.{Bor}
 use Rattle.st_il.specs.declared.value.Value.{Value}
-use Rattle.st_semantics.specs.Names.{Name}
+use Rattle.st_il.specs.Names.{Name}
 use Rattle.st_search.specs.declared.answer.Output.{Output}
 use Rattle.st_search.specs.declared.answer.SearchFault.{SearchFault}
 use Rattle.st_search.specs.declared.found.Found.{Found}

@@ -4,7 +4,7 @@ use Rattle.st_il.specs.declared.definition.Listed.{Listed}
 use Rattle.st_il.specs.declared.definition.SyntaxDef.{SyntaxDef}
 use Rattle.st_il.specs.declared.expression.Iteration.{Iteration}
 use Rattle.st_il.specs.declared.value.Env.{Env}
-use Rattle.st_semantics.specs.Names.{Name}
+use Rattle.st_il.specs.Names.{Name}
 use Rattle.st_eval.specs.declared.condition.Met.TheVariants as met
 use Rattle.st_eval.specs.inner.Gathered.{IsGathered}
 use Rattle.st_search.specs.declared.found.Solution.{Solution}

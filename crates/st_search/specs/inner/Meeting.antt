@@ -8,7 +8,7 @@ use Rattle.st_il.specs.declared.expression.IlPrem.{IlPrem}
 use Rattle.st_il.specs.declared.tree.Child.TheVariants as child
 use Rattle.st_il.specs.declared.value.Env.{Env}
 use Rattle.st_il.specs.declared.value.Value.{Value}
-use Rattle.st_semantics.specs.Names.{Name}
+use Rattle.st_il.specs.Names.{Name}
 use Rattle.st_semantics.specs.Evaluation.{tasks}
 use Rattle.st_semantics.specs.Holding.{HaveValues}
 use Rattle.st_semantics.specs.Variables.{vars_of}

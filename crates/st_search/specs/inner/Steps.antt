@@ -5,8 +5,8 @@ use Rattle.st_il.specs.declared.definition.Listed.{Listed}
 use Rattle.st_il.specs.declared.expression.IlPrem.{IlPrem}
 use Rattle.st_il.specs.declared.tree.Child.{Child}
 use Rattle.st_il.specs.declared.value.Env.{Env}
-use Rattle.st_semantics.specs.Names.{Name, without}
-use Rattle.st_semantics.specs.Definitions.{syntaxes}
+use Rattle.st_il.specs.Names.{Name, without}
+use Rattle.st_il.specs.Definitions.{syntaxes}
 use Rattle.st_semantics.specs.Environments.{AgreeOn, TypedIn}
 use Rattle.st_semantics.specs.Variables.{prem_vars}
 use Rattle.st_semantics.specs.Holding.{Holds}

@@ -8,7 +8,7 @@ use Rattle.st_il.specs.declared.tree.Child.{Child}
 use Rattle.st_il.specs.declared.tree.Child.TheVariants as child
 use Rattle.st_il.specs.declared.value.Env.{Env}
 use Rattle.st_semantics.specs.declared.outcome.Outcome.TheVariants.{Deep}
-use Rattle.st_semantics.specs.Names.{Name, has_name, without}
+use Rattle.st_il.specs.Names.{Name, has_name, without}
 use Rattle.st_semantics.specs.Environments.{AgreeOn}
 use Rattle.st_semantics.specs.Iterations.{index_of, gathered}
 use Rattle.st_semantics.specs.Variables.{prem_vars}

@@ -3,8 +3,8 @@ use Rattle.std.specs.Prelude.{◌≡◌, ℕ, true, List, Some, slice_get}
 use Rattle.st_il.specs.declared.definition.Il.{Il}
 use Rattle.st_il.specs.declared.definition.RuleDef.{RuleDef}
 use Rattle.st_il.specs.declared.value.Value.{Value}
-use Rattle.st_semantics.specs.Names.{Name}
-use Rattle.st_semantics.specs.Definitions.{rules_of}
+use Rattle.st_il.specs.Names.{Name}
+use Rattle.st_il.specs.Definitions.{rules_of}
 use Rattle.st_semantics.specs.Orders.{is_order}
 use Rattle.st_semantics.specs.ModeRules.{cites_nothing}
 use Rattle.st_semantics.specs.Evidence.{IsDeepTrial, GivesOutputs, in_trial, in_trial_at}

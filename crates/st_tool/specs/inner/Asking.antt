@@ -7,9 +7,9 @@ use Rattle.st_il.specs.declared.definition.RelationDef.{RelationDef}
 use Rattle.st_elab_law.specs.Agreement.{decls_in}
 use Rattle.st_search.specs.Proper.{IsProper}
 use Rattle.st_search.specs.Searchable.{HasNoOtherwise}
-use Rattle.st_semantics.specs.Definitions.{relation_named}
+use Rattle.st_il.specs.Definitions.{relation_named}
 use Rattle.st_semantics.specs.Marks.{HasMark}
-use Rattle.st_semantics.specs.Names.{Name}
+use Rattle.st_il.specs.Names.{Name}
 use Rattle.st_semantics.specs.Transcript.{Term}
 use Rattle.st_tool.specs.declared.searches.Asked.{Asked}
 use Rattle.st_tool.specs.declared.searches.Asked.TheVariants.{Next, Run}

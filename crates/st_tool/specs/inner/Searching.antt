@@ -3,7 +3,7 @@ use Rattle.std.specs.Prelude.{◌≡◌, ℕ, ◌≤◌, false, List, [], ◌∷
 use Rattle.st_il.specs.declared.definition.Il.{Il}
 use Rattle.st_search.specs.Answers.{goal_of, AreOutputs, IsChainOf}
 use Rattle.st_search.specs.Searchable.{IsSearchable, HasNoOtherwise}
-use Rattle.st_semantics.specs.Names.{Name}
+use Rattle.st_il.specs.Names.{Name}
 use Rattle.st_semantics.specs.Derivation.{Derivable}
 use Rattle.st_semantics.specs.Goals.{AreInputs}
 use Rattle.st_semantics.specs.Marks.{HasMark}

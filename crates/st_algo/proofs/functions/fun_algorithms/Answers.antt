@@ -1,5 +1,5 @@
 use Rattle.std.proofs.Common.{sym, ap, ◌∙◌, map}
-use Rattle.st_semantics.specs.Definitions.{clauses_of}
+use Rattle.st_il.specs.Definitions.{clauses_of}
 use Rattle.st_algo.specs.Lowered.{clause_algorithm}
 use Rattle.st_algo.proofs.GroupParts.{members_found, members_none}
 use Rattle.st_algo.proofs.functions.fun_algorithms.Goals as goal

@@ -1,4 +1,4 @@
-use Rattle.st_semantics.specs.Definitions.{funs_in}
+use Rattle.st_il.specs.Definitions.{funs_in}
 use Rattle.st_order.proofs.Following.{following}
 use Rattle.st_algo.proofs.GroupParts.{functions_head}
 use Rattle.st_algo.proofs.functions.functions_of.Goals as goal

@@ -1,5 +1,5 @@
 use Rattle.std.proofs.Common.{◌≡◌, ◌++◌, drop}
-use Rattle.st_semantics.specs.Definitions.{funs_in}
+use Rattle.st_il.specs.Definitions.{funs_in}
 use Rattle.st_order.specs.Known.{all_now}
 use Rattle.st_algo.proofs.functions.functions_of.Given as goal
 

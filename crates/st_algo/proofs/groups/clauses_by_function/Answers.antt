@@ -1,5 +1,5 @@
 use Rattle.std.proofs.Common.{refl, ap, ◌∙◌}
-use Rattle.st_semantics.specs.Definitions.{clauses_from, clauses_in}
+use Rattle.st_il.specs.Definitions.{clauses_from, clauses_in}
 use Rattle.st_order.proofs.Following.{following}
 use Rattle.st_algo.specs.inner.Groups.{members}
 use Rattle.st_algo.proofs.GroupParts.{clauses_head, ended}

@@ -1,5 +1,5 @@
 use Rattle.std.proofs.Common.{refl, ap, ◌∙◌}
-use Rattle.st_semantics.specs.Definitions.{rules_from, rules_in}
+use Rattle.st_il.specs.Definitions.{rules_from, rules_in}
 use Rattle.st_order.proofs.Following.{following}
 use Rattle.st_order.proofs.RuleParts.{rules_head}
 use Rattle.st_algo.specs.inner.Groups.{members}

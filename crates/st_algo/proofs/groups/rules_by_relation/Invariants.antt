@@ -1,5 +1,5 @@
 use Rattle.std.proofs.Common.{◌≡◌, ◌++◌, ℕ, List, drop}
-use Rattle.st_semantics.specs.Definitions.{rules_from, rules_in}
+use Rattle.st_il.specs.Definitions.{rules_from, rules_in}
 use Rattle.st_algo.specs.inner.Groups.{members}
 use Rattle.st_algo.proofs.groups.rules_by_relation.Given as goal
 

@@ -1,6 +1,6 @@
 use Rattle.std.proofs.Common.{sym, ap, ap₂, ◌∙◌}
 use Rattle.std.specs.List.{enumerate_from}
-use Rattle.st_semantics.specs.Definitions.{rules_of}
+use Rattle.st_il.specs.Definitions.{rules_of}
 use Rattle.st_algo.specs.Lowered.{rule_algorithms, orders_at}
 use Rattle.st_algo.proofs.GroupParts.{members_found, members_none}
 use Rattle.st_algo.proofs.relations.relation_algorithms.Goals as goal

@@ -1,7 +1,7 @@
 use Rattle.std.proofs.Common.{◌≡◌, ◌<◌, ◌∙◌, ap, length, arith}
 use Rattle.std.proofs.lemmas.Result.{IfOk-weaker}
 use Rattle.st_order.specs.Known.{all_now}
-use Rattle.st_semantics.specs.Definitions.{relations}
+use Rattle.st_il.specs.Definitions.{relations}
 use Rattle.st_answers.proofs.MarkLemmas.{undeclared, is_within, tagged_at, by_name}
 use Rattle.st_answers.proofs.OrderLines.{within_few, within_marks, mark_at}
 use Rattle.st_answers.proofs.marking.mark_of.Goals as goal

@@ -1,5 +1,5 @@
 use Rattle.std.proofs.Common.{◌∙◌, arith}
-use Rattle.st_semantics.specs.Definitions.{relations}
+use Rattle.st_il.specs.Definitions.{relations}
 use Rattle.st_answers.specs.OrderTexts.{relation_lines}
 use Rattle.st_answers.proofs.OrderLines.{one_more_now, all_lines, within_few, within_marks, within_orders, mark_at, orders_at}
 use Rattle.st_answers.proofs.ordering.add_relations.Goals as goal

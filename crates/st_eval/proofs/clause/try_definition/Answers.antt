@@ -1,6 +1,6 @@
 use Rattle.std.proofs.Common.{sym, ◌∙◌, ap, subst, [], ◌∷◌, All}
 use Rattle.std.proofs.lemmas.List.Elements.{All-head}
-use Rattle.st_semantics.specs.Definitions.{clauses_in, clauses_from}
+use Rattle.st_il.specs.Definitions.{clauses_in, clauses_from}
 use Rattle.st_eval.specs.Evaluable.{CanBeTried}
 use Rattle.st_eval.specs.inner.Tried.{AreTried}
 use Rattle.st_eval.proofs.Tried.{AreTried-none, AreTried-one, other_fun, this_fun}

@@ -1,6 +1,6 @@
 use Rattle.std.proofs.Common.{◌≡◌, ◌++◌, true, sym, ◌∙◌, ap, subst}
-use Rattle.st_semantics.specs.Names.{all_known}
-use Rattle.st_semantics.specs.Definitions.{syntaxes}
+use Rattle.st_il.specs.Names.{all_known}
+use Rattle.st_il.specs.Definitions.{syntaxes}
 use Rattle.st_semantics.specs.Environments.{names_of}
 use Rattle.st_semantics.specs.Formed.{IsFormed}
 use Rattle.st_semantics.specs.Patterns.{is_pattern, binds}

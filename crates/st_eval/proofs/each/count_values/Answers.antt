@@ -1,8 +1,8 @@
 use Rattle.std.proofs.Common.{sym, subst, filter}
 use Rattle.st_il.specs.declared.expression.IlExp.{IlExp}
 use Rattle.st_semantics.specs.declared.outcome.Outcomes.TheVariants.{Values}
-use Rattle.st_semantics.specs.Names.{all_known}
-use Rattle.st_semantics.specs.Definitions.{syntaxes}
+use Rattle.st_il.specs.Names.{all_known}
+use Rattle.st_il.specs.Definitions.{syntaxes}
 use Rattle.st_semantics.specs.Iterations.{count_of}
 use Rattle.st_semantics.specs.Evaluation.{GivesAll, tasks}
 use Rattle.st_semantics.specs.Variables.{vars}

@@ -1,6 +1,6 @@
 use Rattle.std.proofs.Common.{◌≡◌, ◌+◌, ◌<◌, sym, ◌∙◌, ap, subst, arith}
 use Rattle.st_il.specs.declared.expression.IlExp.{out-IlExp}
-use Rattle.st_semantics.specs.Names.{all_known}
+use Rattle.st_il.specs.Names.{all_known}
 use Rattle.st_semantics.specs.Operands.{operands_at, item_exp, segment_exps}
 use Rattle.st_semantics.specs.Formed.{AreFormed}
 use Rattle.st_semantics.specs.Iterations.{count_of, index_of}

@@ -1,5 +1,5 @@
 use Rattle.std.proofs.Common.{◌≡◌, ◌+◌, max, drop}
-use Rattle.st_semantics.specs.Names.{all_known}
+use Rattle.st_il.specs.Names.{all_known}
 use Rattle.st_semantics.specs.Iterations.{count_of}
 use Rattle.st_semantics.specs.Variables.{vars_of}
 use Rattle.st_semantics.specs.References.{exps_now}

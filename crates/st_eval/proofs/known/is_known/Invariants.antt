@@ -1,5 +1,5 @@
 use Rattle.std.proofs.Common.{◌≡◌, drop}
-use Rattle.st_semantics.specs.Names.{has_name}
+use Rattle.st_il.specs.Names.{has_name}
 use Rattle.st_eval.specs.inner.Known.{names_now}
 use Rattle.st_eval.proofs.known.is_known.Given as goal
 

@@ -2,9 +2,9 @@ use Rattle.std.proofs.Common.{rules, ◌≡◌, ◌+◌, ◌<◌, ◌^◌, ◌++
 use Rattle.st_il.specs.declared.expression.IlPrem.{out-IlPrem}
 use Rattle.st_il.specs.declared.expression.IlPrem.TheVariants as prem
 use Rattle.st_semantics.specs.declared.outcome.Outcomes.TheVariants.{Values}
-use Rattle.st_semantics.specs.Names.{among}
+use Rattle.st_il.specs.Names.{among}
 use Rattle.st_semantics.specs.Environments.{Entry}
-use Rattle.st_semantics.specs.Definitions.{syntaxes}
+use Rattle.st_il.specs.Definitions.{syntaxes}
 use Rattle.st_semantics.specs.Iterations.{index_of, spread, rows, Misfit, Over}
 use Rattle.st_semantics.specs.Scopes.{listed_inside}
 use Rattle.st_semantics.specs.Evaluation.{GivesAll, tasks}

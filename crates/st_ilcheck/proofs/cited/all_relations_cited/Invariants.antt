@@ -1,6 +1,6 @@
 use Rattle.std.proofs.Common.{◌≡◌, ◌++◌, drop, map, List}
 use Rattle.st_il.specs.declared.expression.IlPrem.{IlPrem}
-use Rattle.st_semantics.specs.Names.{flattened}
+use Rattle.st_il.specs.Names.{flattened}
 use Rattle.st_semantics.specs.Variables.{relations_cited}
 use Rattle.st_ilcheck.proofs.cited.all_relations_cited.Given as goal
 

@@ -1,6 +1,6 @@
 use Rattle.std.proofs.Common.{rules, sym, ap, ◌∙◌, take}
 use Rattle.st_type_table.proofs.PartsLemmas.{FindsAt-none}
-use Rattle.st_semantics.specs.Names.{has_name}
+use Rattle.st_il.specs.Names.{has_name}
 use Rattle.st_ilcheck.proofs.SyntaxLemmas.{unnamed, named_before, syntax-kept}
 use Rattle.st_ilcheck.proofs.declarations.keeps_syntax.Goals as goal
 

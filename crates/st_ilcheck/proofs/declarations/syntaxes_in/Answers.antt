@@ -1,6 +1,6 @@
 use Rattle.std.proofs.Common.{refl, [], ◌∷◌}
 use Rattle.st_il.specs.declared.definition.IlDef.{IlDef}
-use Rattle.st_semantics.specs.Definitions.{syntaxes_in}
+use Rattle.st_il.specs.Definitions.{syntaxes_in}
 use Rattle.st_ilcheck.proofs.SyntaxLemmas.{syntaxes-step}
 use Rattle.st_ilcheck.proofs.Walks.{walk-next, walk-end}
 use Rattle.st_ilcheck.proofs.declarations.syntaxes_in.Goals as goal

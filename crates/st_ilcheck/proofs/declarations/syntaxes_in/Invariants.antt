@@ -1,5 +1,5 @@
 use Rattle.std.proofs.Common.{◌≡◌, ◌++◌, drop}
-use Rattle.st_semantics.specs.Definitions.{syntaxes_in}
+use Rattle.st_il.specs.Definitions.{syntaxes_in}
 use Rattle.st_ilcheck.proofs.declarations.syntaxes_in.Given as goal
 
 abbrev pub invariant-loop-def : goal.invariant-loop-def

@@ -1,4 +1,4 @@
-use Rattle.st_semantics.specs.Definitions.{syntaxes}
+use Rattle.st_il.specs.Definitions.{syntaxes}
 use Rattle.st_ilcheck.proofs.Fields.{field-found}
 use Rattle.st_ilcheck.proofs.found.field_type.Goals as goal
 

@@ -2,7 +2,7 @@ use Rattle.std.proofs.Common.{sym, subst, Option}
 use Rattle.std.specs.Borrow.{Bor}
 use Rattle.std.specs.Option.{option_copied}
 use Rattle.st_il.specs.declared.ty.Ty.{Ty}
-use Rattle.st_semantics.specs.Definitions.{syntaxes}
+use Rattle.st_il.specs.Definitions.{syntaxes}
 use Rattle.st_ilcheck.specs.FoundTypes.{IsElementOf, ChosenFrom}
 use Rattle.st_ilcheck.proofs.Builds.{chosen-copied}
 use Rattle.st_ilcheck.proofs.found.type_of_element.Goals as goal

@@ -1,6 +1,6 @@
 use Rattle.std.proofs.Common.{◌↔◌, rules, subst}
 use Rattle.std.specs.Prelude.{IsTrue}
-use Rattle.st_semantics.specs.Definitions.{syntaxes}
+use Rattle.st_il.specs.Definitions.{syntaxes}
 use Rattle.st_ilcheck.specs.Rules.{Are}
 use Rattle.st_ilcheck.proofs.Kept.{call-kept, call-none}
 use Rattle.st_ilcheck.proofs.keeping.is_call.Goals as goal

@@ -2,7 +2,7 @@ use Rattle.std.proofs.Common.{◌↔◌, rules, sym, subst}
 use Rattle.std.specs.Prelude.{IsTrue}
 use Rattle.st_il.specs.declared.ty.Ty.TheVariants as ty
 use Rattle.st_type_table.specs.inner.TypedLevels.{HasOperands}
-use Rattle.st_semantics.specs.Definitions.{syntaxes}
+use Rattle.st_il.specs.Definitions.{syntaxes}
 use Rattle.st_ilcheck.specs.Rules.{Are}
 use Rattle.st_ilcheck.proofs.Kept.{case-kept, case-none}
 use Rattle.st_ilcheck.proofs.keeping.is_case.Goals as goal

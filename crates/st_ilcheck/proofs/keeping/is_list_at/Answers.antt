@@ -1,6 +1,6 @@
 use Rattle.std.proofs.Common.{rules, sym, subst}
 use Rattle.st_il.specs.declared.ty.Ty.TheVariants as ty
-use Rattle.st_semantics.specs.Definitions.{syntaxes}
+use Rattle.st_il.specs.Definitions.{syntaxes}
 use Rattle.st_ilcheck.specs.Rules.{IsList, AllAre}
 use Rattle.st_ilcheck.proofs.keeping.is_list_at.Goals as goal
 

@@ -1,5 +1,5 @@
 use Rattle.std.proofs.Common.{◌≡◌, drop}
-use Rattle.st_semantics.specs.Names.{has_name}
+use Rattle.st_il.specs.Names.{has_name}
 use Rattle.st_ilcheck.proofs.listed.has_name.Given as goal
 
 abbrev pub invariant-loop-other : goal.invariant-loop-other

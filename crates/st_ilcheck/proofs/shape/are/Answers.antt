@@ -1,5 +1,5 @@
 use Rattle.std.proofs.Common.{rules, arith, sym, ◌∙◌}
-use Rattle.st_semantics.specs.Definitions.{syntaxes}
+use Rattle.st_il.specs.Definitions.{syntaxes}
 use Rattle.st_ilcheck.specs.Rules.{Is}
 use Rattle.st_ilcheck.proofs.Each.{AreEach-length, AreEach-at, AreEach-end}
 use Rattle.st_ilcheck.proofs.shape.are.Goals as goal

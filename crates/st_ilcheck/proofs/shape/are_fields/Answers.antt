@@ -1,6 +1,6 @@
 use Rattle.std.proofs.Common.{rules, arith, ℕ, List, sym, subst, ◌∙◌}
 use Rattle.st_il.specs.declared.ty.Ty.{Ty}
-use Rattle.st_semantics.specs.Definitions.{syntaxes}
+use Rattle.st_il.specs.Definitions.{syntaxes}
 use Rattle.st_ilcheck.specs.Rules.{Is}
 use Rattle.st_ilcheck.proofs.Each.{AreEach-length, AreEach-at, AreEach-end}
 use Rattle.st_ilcheck.proofs.shape.are_fields.Goals as goal

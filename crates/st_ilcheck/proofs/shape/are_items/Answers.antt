@@ -1,6 +1,6 @@
 use Rattle.std.proofs.Common.{rules, arith, sym, ◌∙◌}
 use Rattle.st_il.specs.declared.expression.ListItem.{ListItem, out-ListItem}
-use Rattle.st_semantics.specs.Definitions.{syntaxes}
+use Rattle.st_il.specs.Definitions.{syntaxes}
 use Rattle.st_ilcheck.specs.Rules.{IsItem}
 use Rattle.st_ilcheck.proofs.Each.{AreEach-length, AreEach-at, AreEach-end}
 use Rattle.st_ilcheck.proofs.shape.are_items.Goals as goal

@@ -2,7 +2,7 @@ use Rattle.std.proofs.Common.{rules, subst, Option}
 use Rattle.std.specs.Borrow.{Bor}
 use Rattle.std.specs.Option.{option_copied}
 use Rattle.st_il.specs.declared.ty.Ty.{Ty}
-use Rattle.st_semantics.specs.Definitions.{syntaxes}
+use Rattle.st_il.specs.Definitions.{syntaxes}
 use Rattle.st_ilcheck.specs.Rules.{HasField}
 use Rattle.st_ilcheck.proofs.shape.has_field.Goals as goal
 

@@ -1,6 +1,6 @@
 use Rattle.std.proofs.Common.{rules}
 use Rattle.std.specs.Option.{option_copied}
-use Rattle.st_semantics.specs.Definitions.{syntaxes}
+use Rattle.st_il.specs.Definitions.{syntaxes}
 use Rattle.st_ilcheck.proofs.Paths.{extended-place, extended-nowhere}
 use Rattle.st_ilcheck.proofs.shape.is_extended.Goals as goal
 

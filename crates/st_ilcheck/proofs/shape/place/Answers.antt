@@ -1,4 +1,4 @@
-use Rattle.st_semantics.specs.Definitions.{syntaxes}
+use Rattle.st_il.specs.Definitions.{syntaxes}
 use Rattle.st_ilcheck.proofs.Paths.{place-stops, place-goes, place-ends}
 use Rattle.st_ilcheck.proofs.shape.place.Goals as goal
 

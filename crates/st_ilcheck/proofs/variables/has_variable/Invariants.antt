@@ -1,5 +1,5 @@
 use Rattle.std.proofs.Common.{◌≡◌, drop}
-use Rattle.st_semantics.specs.Names.{has_name}
+use Rattle.st_il.specs.Names.{has_name}
 use Rattle.st_semantics.specs.Environments.{listed_names}
 use Rattle.st_ilcheck.proofs.variables.has_variable.Given as goal
 

@@ -1,5 +1,5 @@
 use Rattle.std.proofs.Common.{rules, ◌≡◌, false, ℕ, List, sym, ◌∙◌}
-use Rattle.st_semantics.specs.Names.{has_name}
+use Rattle.st_il.specs.Names.{has_name}
 use Rattle.st_ilcheck.specs.Variables.{names_of}
 use Rattle.st_ilcheck.proofs.Alls.{All-refuted, All-longer, All-whole}
 use Rattle.st_ilcheck.proofs.variables.stay_inside.Goals as goal

@@ -1,6 +1,6 @@
 use Rattle.std.proofs.Common.{◌≡◌, false, ℕ, List, take}
 use Rattle.std.specs.Prelude.{All}
-use Rattle.st_semantics.specs.Names.{has_name}
+use Rattle.st_il.specs.Names.{has_name}
 use Rattle.st_ilcheck.specs.Variables.{names_of}
 use Rattle.st_ilcheck.proofs.variables.stay_inside.Given as goal
 

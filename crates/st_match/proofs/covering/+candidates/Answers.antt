@@ -6,7 +6,7 @@ use Rattle.st_il.specs.declared.expression.Iteration.TheVariants as iteration
 use Rattle.st_il.specs.declared.expression.ListItem.TheVariants as item
 use Rattle.st_il.specs.declared.value.Value.{Value}
 use Rattle.st_il.specs.declared.value.Value.TheVariants as value
-use Rattle.st_semantics.specs.Names.{Name}
+use Rattle.st_il.specs.Names.{Name}
 use Rattle.st_semantics.specs.Iterations.{count_of, count_at}
 use Rattle.st_match.specs.inner.Fitting.{field_values}
 use Rattle.st_match.specs.inner.Covering.{AreCandidates}

@@ -1,5 +1,5 @@
 use Rattle.std.proofs.Common.{rules, sym, ◌∙◌, ap, subst, [], ◌∷◌}
-use Rattle.st_semantics.specs.Names.{has_name}
+use Rattle.st_il.specs.Names.{has_name}
 use Rattle.st_match.specs.inner.Fitting.{HasValue}
 use Rattle.st_match.specs.inner.Covering.{Covers}
 use Rattle.st_match.proofs.HasValue.{HasValue-bound, HasValue-same}

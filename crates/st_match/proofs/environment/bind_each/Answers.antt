@@ -1,5 +1,5 @@
 use Rattle.std.proofs.Common.{[], ◌∷◌}
-use Rattle.st_semantics.specs.Names.{has_name}
+use Rattle.st_il.specs.Names.{has_name}
 use Rattle.st_match.specs.inner.Fitting.{HasValue}
 use Rattle.st_match.proofs.Covers.{Covers-more, Covers-all}
 use Rattle.st_match.proofs.environment.bind_each.Goals as goal

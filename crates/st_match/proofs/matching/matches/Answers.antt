@@ -2,7 +2,7 @@ use Rattle.std.proofs.Common.{◌++◌, sym, ◌∙◌, ap, ap₂, subst, List, 
 use Rattle.std.specs.List.{list_all}
 use Rattle.st_il.specs.declared.expression.IlExp.{IlExp}
 use Rattle.st_il.specs.declared.value.Value.{Value}
-use Rattle.st_semantics.specs.Names.{flattened, all_known}
+use Rattle.st_il.specs.Names.{flattened, all_known}
 use Rattle.st_semantics.specs.Environments.{names_of}
 use Rattle.st_semantics.specs.Formed.{AreFormed}
 use Rattle.st_semantics.specs.Formed as formed

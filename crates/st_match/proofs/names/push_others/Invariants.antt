@@ -1,5 +1,5 @@
 use Rattle.std.proofs.Common.{◌≡◌, ◌++◌, drop}
-use Rattle.st_semantics.specs.Names.{without}
+use Rattle.st_il.specs.Names.{without}
 use Rattle.st_semantics.specs.Iterations.{index_of}
 use Rattle.st_match.proofs.names.push_others.Given as goal
 

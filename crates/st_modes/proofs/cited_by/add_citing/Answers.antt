@@ -1,5 +1,5 @@
 use Rattle.std.proofs.Common.{ap, ◌∙◌, map}
-use Rattle.st_semantics.specs.Names.{flattened}
+use Rattle.st_il.specs.Names.{flattened}
 use Rattle.st_semantics.specs.Variables.{relations_cited}
 use Rattle.st_modes.proofs.CitedByParts.{citing-rule, citing-other}
 use Rattle.st_order.proofs.SameNames.{names_made}

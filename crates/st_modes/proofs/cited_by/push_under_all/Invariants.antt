@@ -1,5 +1,5 @@
 use Rattle.std.proofs.Common.{◌≡◌, ◌||◌, ◌&&◌, ℕ, List, take, bytes_eq}
-use Rattle.st_semantics.specs.Names.{has_name}
+use Rattle.st_il.specs.Names.{has_name}
 use Rattle.st_order.specs.inner.Index.{names_in}
 use Rattle.st_modes.specs.inner.Reaching.{cited_under}
 use Rattle.st_modes.proofs.cited_by.push_under_all.Given as goal

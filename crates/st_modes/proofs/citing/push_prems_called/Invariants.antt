@@ -1,5 +1,5 @@
 use Rattle.std.proofs.Common.{◌≡◌, ◌++◌, map, drop}
-use Rattle.st_semantics.specs.Names.{flattened}
+use Rattle.st_il.specs.Names.{flattened}
 use Rattle.st_semantics.specs.Variables.{prem_called}
 use Rattle.st_order.specs.inner.Index.{names_in}
 use Rattle.st_modes.proofs.citing.push_prems_called.Given as goal

@@ -1,7 +1,7 @@
 use Rattle.std.proofs.Common.{sym, ap, ap₂, ◌∙◌, not}
 use Rattle.std.specs.List.{list_all}
 use Rattle.st_il.specs.declared.expression.IlExp.{IlExp}
-use Rattle.st_semantics.specs.Names.{all_known}
+use Rattle.st_il.specs.Names.{all_known}
 use Rattle.st_semantics.specs.OpenParts.{is_doubly_open}
 use Rattle.st_semantics.specs.Patterns.{is_pattern, bound_by}
 use Rattle.st_semantics.specs.ModeRules.{patterns_have_one_open}

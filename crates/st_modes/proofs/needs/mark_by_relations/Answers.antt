@@ -1,5 +1,5 @@
 use Rattle.std.proofs.Common.{sym, subst}
-use Rattle.st_semantics.specs.Definitions.{relations}
+use Rattle.st_il.specs.Definitions.{relations}
 use Rattle.st_semantics.specs.Marks.{IsUnfit}
 use Rattle.st_order.specs.Known.{all_now}
 use Rattle.st_modes.specs.inner.Sifted.{Sifted}

@@ -1,6 +1,6 @@
 use Rattle.std.proofs.Common.{ap, ◌∙◌, subst, map}
 use Rattle.st_il.specs.declared.definition.RelationDef.{RelationDef}
-use Rattle.st_semantics.specs.Names.{has_name}
+use Rattle.st_il.specs.Names.{has_name}
 use Rattle.st_order.specs.Known.{all_now}
 use Rattle.st_modes.specs.inner.Citations.{cited_by_relation}
 use Rattle.st_order.specs.inner.Index.{names_in}

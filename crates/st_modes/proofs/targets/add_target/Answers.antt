@@ -1,6 +1,6 @@
 use Rattle.std.proofs.Common.{◌≡◌, ap, ◌∙◌, length, arith}
 use Rattle.std.proofs.lemmas.List.{length-map}
-use Rattle.st_semantics.specs.Names.{has_name}
+use Rattle.st_il.specs.Names.{has_name}
 use Rattle.st_order.specs.Known.{at}
 use Rattle.st_order.specs.inner.Index.{names_in}
 use Rattle.st_modes.specs.inner.Reaching.{cited_under}

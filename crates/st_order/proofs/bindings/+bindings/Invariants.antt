@@ -1,5 +1,5 @@
 use Rattle.std.proofs.Common.{◌≡◌, ◌++◌, map, drop}
-use Rattle.st_semantics.specs.Names.{flattened}
+use Rattle.st_il.specs.Names.{flattened}
 use Rattle.st_order.specs.inner.Index.{names_in}
 use Rattle.st_order.specs.inner.Parts.{names_bound, bound_in, bound_item, bound_segment}
 use Rattle.st_order.proofs.bindings.+bindings.Given as goal

@@ -1,4 +1,4 @@
-use Rattle.st_semantics.specs.Names.{among}
+use Rattle.st_il.specs.Names.{among}
 use Rattle.st_semantics.specs.Iterations.{index_of}
 use Rattle.st_order.specs.inner.Index.{names_in}
 use Rattle.st_order.proofs.ClassParts.{inside_is}

@@ -1,5 +1,5 @@
 use Rattle.std.proofs.Common.{◌≡◌, drop}
-use Rattle.st_semantics.specs.Names.{all_known}
+use Rattle.st_il.specs.Names.{all_known}
 use Rattle.st_order.specs.inner.Index.{names_in}
 use Rattle.st_order.proofs.index.are_known.Given as goal
 

@@ -1,6 +1,6 @@
 use Rattle.std.proofs.Common.{◌≡◌, drop}
 use Rattle.std.specs.List.{list_any}
-use Rattle.st_semantics.specs.Names.{has_name}
+use Rattle.st_il.specs.Names.{has_name}
 use Rattle.st_order.specs.inner.Index.{names_in}
 use Rattle.st_order.proofs.index.is_any_known.Given as goal
 

@@ -1,6 +1,6 @@
 use Rattle.std.proofs.Common.{◌≡◌, ◌-◌, length, drop}
 use Rattle.std.specs.Option.{option_copied}
-use Rattle.st_semantics.specs.Names.{least}
+use Rattle.st_il.specs.Names.{least}
 use Rattle.st_order.specs.inner.Index.{names_in}
 use Rattle.st_order.proofs.least.least.Given as goal
 

@@ -1,5 +1,5 @@
 use Rattle.std.proofs.Common.{ap, ◌∙◌}
-use Rattle.st_semantics.specs.Names.{without, least}
+use Rattle.st_il.specs.Names.{without, least}
 use Rattle.st_semantics.specs.Variables.{prem_vars}
 use Rattle.st_order.specs.inner.Index.{names_in}
 use Rattle.st_order.proofs.SameNames.{names_made}

@@ -1,4 +1,4 @@
-use Rattle.st_semantics.specs.Definitions.{relations_in}
+use Rattle.st_il.specs.Definitions.{relations_in}
 use Rattle.st_order.proofs.Following.{following}
 use Rattle.st_order.proofs.RuleParts.{relations_head}
 use Rattle.st_order.proofs.rules.relations_of.Goals as goal

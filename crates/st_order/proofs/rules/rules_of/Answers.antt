@@ -1,4 +1,4 @@
-use Rattle.st_semantics.specs.Definitions.{rules_from, rules_in}
+use Rattle.st_il.specs.Definitions.{rules_from, rules_in}
 use Rattle.st_order.proofs.Following.{following}
 use Rattle.st_order.proofs.RuleParts.{rules_head}
 use Rattle.st_order.proofs.rules.rules_of.Goals as goal

@@ -1,5 +1,5 @@
 use Rattle.std.proofs.Common.{false, sym, subst, ◌+◌, take, ◌∙◌}
-use Rattle.st_semantics.specs.Definitions.{syntaxes}
+use Rattle.st_il.specs.Definitions.{syntaxes}
 use Rattle.st_semantics.specs.Calls.{ValueAt}
 use Rattle.st_match.proofs.FitAll.{formed_at}
 use Rattle.st_search.proofs.SomeGives.{AreValued, valued_next, valued_none, valued_deep}

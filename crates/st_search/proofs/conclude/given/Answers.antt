@@ -1,6 +1,6 @@
 use Rattle.std.proofs.Common.{rules, sym, subst, not, map}
 use Rattle.st_semantics.specs.declared.outcome.Outcome.TheVariants.{NoValue, Deep}
-use Rattle.st_semantics.specs.Definitions.{syntaxes}
+use Rattle.st_il.specs.Definitions.{syntaxes}
 use Rattle.st_semantics.specs.Directions.{mask}
 use Rattle.st_semantics.specs.Evaluation.{tasks}
 use Rattle.st_semantics.specs.Formed.{AreFormed}

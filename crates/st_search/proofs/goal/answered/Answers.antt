@@ -1,5 +1,5 @@
 use Rattle.std.proofs.Common.{◌≡◌, sym, ◌∙◌, subst}
-use Rattle.st_semantics.specs.Definitions.{syntaxes}
+use Rattle.st_il.specs.Definitions.{syntaxes}
 use Rattle.st_match.specs.inner.Scope.{scope_env}
 use Rattle.st_search.specs.declared.holes.Evaluated.TheVariants.{Computed}
 use Rattle.st_search.specs.inner.Chains.{stop_by}

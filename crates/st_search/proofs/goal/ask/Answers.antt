@@ -1,6 +1,6 @@
 use Rattle.std.proofs.Common.{sym, ◌∙◌, ap, subst}
 use Rattle.st_semantics.specs.declared.outcome.Outcomes.TheVariants.{Stopped}
-use Rattle.st_semantics.specs.Definitions.{syntaxes}
+use Rattle.st_il.specs.Definitions.{syntaxes}
 use Rattle.st_semantics.specs.Evaluation.{tasks, GivesAll}
 use Rattle.st_semantics.specs.Calls.{CallAt}
 use Rattle.st_match.specs.inner.Scope.{scope_env}

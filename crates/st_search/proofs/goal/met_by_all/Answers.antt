@@ -1,5 +1,5 @@
 use Rattle.std.proofs.Common.{sym, subst, ◌+◌, take}
-use Rattle.st_semantics.specs.Definitions.{syntaxes}
+use Rattle.st_il.specs.Definitions.{syntaxes}
 use Rattle.st_match.specs.inner.Scope.{scope_env}
 use Rattle.st_search.specs.inner.Meeting.{AreMeetings, AllMeetings}
 use Rattle.st_search.proofs.Sequences.{comes_step}

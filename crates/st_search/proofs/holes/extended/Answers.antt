@@ -1,5 +1,5 @@
 use Rattle.std.proofs.Common.{map}
-use Rattle.st_semantics.specs.Names.{flattened}
+use Rattle.st_il.specs.Names.{flattened}
 use Rattle.st_semantics.specs.Patterns.{binds}
 use Rattle.st_semantics.specs.Variables.{vars_of}
 use Rattle.st_match.specs.inner.Scope.{scope_env}

@@ -1,7 +1,7 @@
 use Rattle.std.proofs.Common.{◌≡◌, true, sym, subst, ◌+◌, take}
 use Rattle.st_il.specs.declared.expression.IlExp.{IlExp}
 use Rattle.st_semantics.specs.declared.outcome.Outcome.TheVariants.{Deep}
-use Rattle.st_semantics.specs.Definitions.{syntaxes}
+use Rattle.st_il.specs.Definitions.{syntaxes}
 use Rattle.st_semantics.specs.Calls.{ValueAt}
 use Rattle.st_match.specs.inner.Scope.{scope_env}
 use Rattle.st_match.proofs.FitAll.{formed_at}

@@ -1,4 +1,4 @@
-use Rattle.st_semantics.specs.Definitions.{syntaxes}
+use Rattle.st_il.specs.Definitions.{syntaxes}
 use Rattle.st_semantics.specs.Calls.{CallAt}
 use Rattle.st_semantics.specs.Variables.{vars}
 use Rattle.st_semantics.proofs.Agree.{Gives-agree}

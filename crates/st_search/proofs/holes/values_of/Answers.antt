@@ -1,6 +1,6 @@
 use Rattle.std.proofs.Common.{subst}
 use Rattle.st_semantics.specs.declared.outcome.Outcome.TheVariants.{NoValue, Deep}
-use Rattle.st_semantics.specs.Definitions.{syntaxes}
+use Rattle.st_il.specs.Definitions.{syntaxes}
 use Rattle.st_semantics.specs.Calls.{CallAt, ValueAt}
 use Rattle.st_match.specs.inner.Scope.{scope_env}
 use Rattle.st_match.proofs.FitAll.{formed_at}

@@ -1,4 +1,4 @@
-use Rattle.st_semantics.specs.Definitions.{syntaxes}
+use Rattle.st_il.specs.Definitions.{syntaxes}
 use Rattle.st_semantics.specs.Calls.{CallAt}
 use Rattle.st_match.specs.inner.Scope.{scope_env}
 use Rattle.st_search.proofs.EachValue.{GiveBehind}

@@ -1,6 +1,6 @@
 use Rattle.std.proofs.Common.{rules, ◌≡◌, ℕ, ◌<◌, ◌^◌, List, [], length, subst}
 use Rattle.st_il.specs.declared.definition.RuleDef.{RuleDef}
-use Rattle.st_semantics.specs.Definitions.{rules_in, IsRelation}
+use Rattle.st_il.specs.Definitions.{rules_in, IsRelation}
 use Rattle.st_semantics.specs.Goals.{Goal}
 use Rattle.st_semantics.specs.RuleDepth.{no_variables}
 use Rattle.st_search.specs.declared.answer.SearchFault.{SearchFault}

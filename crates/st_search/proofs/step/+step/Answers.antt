@@ -1,9 +1,9 @@
 use Rattle.std.proofs.Common.{rules, arith, ◌≡◌, ◌+◌, ◌<◌, ◌^◌, ◌++◌, refl, sym, ◌∙◌, ap, subst, List, []}
 use Rattle.st_il.specs.declared.expression.IlPrem.{IlPrem}
 use Rattle.st_semantics.specs.declared.outcome.Outcomes.TheVariants.{Values}
-use Rattle.st_semantics.specs.Names.{Name, among}
+use Rattle.st_il.specs.Names.{Name, among}
 use Rattle.st_semantics.specs.Environments.{names_of}
-use Rattle.st_semantics.specs.Definitions.{syntaxes}
+use Rattle.st_il.specs.Definitions.{syntaxes}
 use Rattle.st_semantics.specs.Iterations.{index_of, spread, rows, Misfit, Over}
 use Rattle.st_semantics.specs.Scopes.{listed_inside}
 use Rattle.st_semantics.specs.Evaluation.{GivesAll, tasks}

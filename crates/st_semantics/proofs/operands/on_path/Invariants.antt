@@ -1,5 +1,5 @@
 use Rattle.std.proofs.Common.{◌≡◌, ◌++◌, ◌∷◌, drop, map}
-use Rattle.st_semantics.specs.Names.{flattened}
+use Rattle.st_il.specs.Names.{flattened}
 use Rattle.st_semantics.specs.Operands.{segment_exps}
 use Rattle.st_semantics.specs.References.{exps_now}
 use Rattle.st_semantics.proofs.operands.on_path.Given as goal

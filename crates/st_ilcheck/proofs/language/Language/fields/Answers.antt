@@ -2,7 +2,7 @@ use Rattle.std.proofs.Common.{◌≡◌, subst, ℕ, List}
 use Rattle.std.specs.Prelude.{MatchOption}
 use Rattle.st_il.specs.declared.ty.Ty.{Ty}
 use Rattle.st_type_table.specs.Cases.{HasFields}
-use Rattle.st_semantics.specs.Definitions.{syntaxes}
+use Rattle.st_il.specs.Definitions.{syntaxes}
 use Rattle.st_ilcheck.proofs.language.Language.fields.Goals as goal
 
 pub returns : goal.returns

@@ -1,6 +1,6 @@
 use Rattle.std.proofs.Common.{◌≡◌, sym, subst, rules}
 use Rattle.st_type_table.specs.Meaning.{Means}
-use Rattle.st_semantics.specs.Definitions.{syntaxes}
+use Rattle.st_il.specs.Definitions.{syntaxes}
 use Rattle.st_ilcheck.proofs.ElementLemmas.{sequence-exact, no-sequence}
 use Rattle.st_ilcheck.proofs.language.Language.is_list_or_option.Goals as goal
 

@@ -1,5 +1,5 @@
 use Rattle.std.proofs.Common.{◌≡◌, ap, ◌∙◌}
-use Rattle.st_semantics.specs.Names.{has_name}
+use Rattle.st_il.specs.Names.{has_name}
 use Rattle.st_ilcheck.specs.inner.Names.{names_at}
 use Rattle.st_ilcheck.proofs.NamesLemmas.{has-exact}
 use Rattle.st_ilcheck.proofs.names.Names.has.Goals as goal

@@ -1,5 +1,5 @@
 use Rattle.std.proofs.Common.{◌≡◌, take}
-use Rattle.st_algo.proofs.copy.+copy.Given as goal
+use Rattle.st_il.proofs.expression_copy.+copy.Given as goal
 
 abbrev pub invariant-copy_exps-loop-exp : goal.invariant-copy_exps-loop-exp
 invariant-copy_exps-loop-exp l = l.copies ≡ take l.exp-index l.exps
