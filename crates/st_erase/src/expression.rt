@@ -38,19 +38,26 @@ impl<'a> Eraser<'a> {
             IlExp::Text(text) => Ok(plain_form(Node::Text(text.copy(self.alloc)?))),
             IlExp::Var(name) => Ok(plain_form(Node::Name(name.copy(self.alloc)?))),
             IlExp::Not(x) => Ok(plain_form(Node::Not(self.side(x)?))),
-            IlExp::And(x, y) | IlExp::Or(x, y) => Ok(binary(self.side(x)?, sign, self.side(y)?)),
-            IlExp::Imp(x, y) | IlExp::Iff(x, y) => Ok(binary(self.side(x)?, sign, self.side(y)?)),
+            IlExp::And(x, y)
+            | IlExp::Or(x, y)
+            | IlExp::Imp(x, y)
+            | IlExp::Iff(x, y)
+            | IlExp::Eq(x, y)
+            | IlExp::Ne(x, y)
+            | IlExp::Lt(x, y)
+            | IlExp::Gt(x, y)
+            | IlExp::Le(x, y)
+            | IlExp::Ge(x, y)
+            | IlExp::Member(x, y)
+            | IlExp::Cat(x, y)
+            | IlExp::Join(x, y) => Ok(binary(self.side(x)?, sign, self.side(y)?)),
             IlExp::Neg(x) => Ok(arithmetic(Node::Neg(self.operand(x)?))),
-            IlExp::Add(_, x, y) | IlExp::Sub(_, x, y) | IlExp::Mul(_, x, y) => {
-                Ok(operation(self.operand(x)?, sign, self.operand(y)?))
-            }
-            IlExp::Div(_, x, y) | IlExp::Rem(_, x, y) | IlExp::Pow(_, x, y) => {
-                Ok(operation(self.operand(x)?, sign, self.operand(y)?))
-            }
-            IlExp::Eq(x, y) | IlExp::Ne(x, y) => Ok(binary(self.side(x)?, sign, self.side(y)?)),
-            IlExp::Lt(x, y) | IlExp::Gt(x, y) => Ok(binary(self.side(x)?, sign, self.side(y)?)),
-            IlExp::Le(x, y) | IlExp::Ge(x, y) => Ok(binary(self.side(x)?, sign, self.side(y)?)),
-            IlExp::Member(x, y) => Ok(binary(self.side(x)?, sign, self.side(y)?)),
+            IlExp::Add(_, x, y)
+            | IlExp::Sub(_, x, y)
+            | IlExp::Mul(_, x, y)
+            | IlExp::Div(_, x, y)
+            | IlExp::Rem(_, x, y)
+            | IlExp::Pow(_, x, y) => Ok(operation(self.operand(x)?, sign, self.operand(y)?)),
             IlExp::Case(_, tag, exps) => case(self.alloc, tag, self.all(exps)?),
             IlExp::Fields(ty, exps) => record(self.alloc, self.defs, ty, self.all(exps)?),
             IlExp::Dot(x, field) => Ok(dot(self.side(x)?, field.copy(self.alloc)?)),
@@ -60,7 +67,6 @@ impl<'a> Eraser<'a> {
             }
             IlExp::Tuple(exps) => Ok(plain_form(Node::Tuple(self.wholes(exps)?))),
             IlExp::List(_, items) => self.list(items.as_slice()),
-            IlExp::Cat(x, y) | IlExp::Join(x, y) => Ok(binary(self.side(x)?, sign, self.side(y)?)),
             IlExp::Empty(_) => Ok(plain_form(Node::Eps)),
             IlExp::Present(x) => self.element(x.get()),
             IlExp::Absent(_) => Ok(absent()),

@@ -1,3 +1,7 @@
+use Rattle.st_el.specs.declared.expression.Count.TheFolds.{the_lemmas}
+use borrow.Author.Tests.{tests}
+use Rattle.std.proofs.Common.{rules, arith}
+use Rattle.std.proofs.lemmas.Grind.{common_steps, pieces, elements}
 use Rattle.std.proofs.Common.{◌≡◌, List, ◌++◌, map, ap, sym, ◌∙◌, subst, OnOk}
 use Rattle.st_el.specs.declared.expression.Node.TheVariants as v
 use Rattle.st_dims.specs.declared.mention.Mention.{Mention}
@@ -42,3 +46,13 @@ mention_node-returns-in_ok-add_body-in-Iter t c =
     let body = c.in_ok-mention_exp-in-Iter.ensures ∙ ap (λ items. items ++ mentions_exp c.get-in-Iter.result.now c.in_ok-inside-in-Iter.inside) c.new-inner.ensures.items in
     subst P (iterated_end (count_meaning c.in-Iter.count) (mentions_exp c.get-in-Iter.result.now) c.args.at c.args.within.now _ _ _ _ (c.in_ok-inside-in-Iter.ensures ∙ sym (marked_round c.args.within.now c.in-Iter.count)) body c.in_ok-add_body-in-Iter.ensures
     ∙ ap (λ seen. c.args.mentions.now.items ++ seen) (sym (node-Iter c.args.node.now _ _ c.args.at c.args.within.now is))) c.mention_count.ensures
+
+pub mention_exps-returns : goal.mention_exps-returns
+mention_exps-returns t c = search (tests, rules, the_lemmas, common_steps)
+
+pub mention_fields-returns : goal.mention_fields-returns
+mention_fields-returns t c = search (tests, rules, the_lemmas, common_steps)
+
+pub mention_path-returns : goal.mention_path-returns
+mention_path-returns t c = search (tests, rules, the_lemmas, common_steps)
+
