@@ -33,11 +33,11 @@ name_crates() {
         }' "$top/crates.txt"
 }
 
-# Whether there is the program $1, and neither the list of crates is newer, nor a file in the folders $2 of its crates.
+# Whether there is the program $1, and no file in the folders $2 of its crates is newer.
 is_up_to_date() {
     program=$1 parts=$2
     [ -x "$program" ] || return 1
-    set -- "$top/crates.txt"
+    set --
     for name in $(name_crates); do
         for part in $parts; do
             if [ -d "$top/crates/$name/$part" ]; then set -- "$@" "$top/crates/$name/$part"; fi
