@@ -1,0 +1,10 @@
+" How a SpecTec specification is edited: its comments, and what `:make` runs.
+if exists('b:did_ftplugin')
+    finish
+endif
+let b:did_ftplugin = 1
+
+setlocal comments=:;; commentstring=;;\ %s
+compiler spectec
+
+let b:undo_ftplugin = 'setlocal comments< commentstring< makeprg< errorformat<'
