@@ -55,4 +55,3 @@ mention_fields-returns t c = search (tests, rules, the_lemmas, common_steps)
 
 pub mention_path-returns : goal.mention_path-returns
 mention_path-returns t c = search (tests, rules, the_lemmas, common_steps)
-
