@@ -3,7 +3,8 @@ use Rattle.std.proofs.Common.{◌≡◌, ap, subst, ℕ, ◌<◌, ◌≤◌, Lis
 use Rattle.std.specs.Prelude.{All}
 use Rattle.std.proofs.lemmas.List.Elements.{All-head, All-tail}
 use Rattle.st_tool.specs.declared.loads.Loaded.TheVariants.{Given}
-use Rattle.st_tool.specs.Commands.{IsBuilt, limit_of, source_limit}
+use Rattle.st_tool.specs.Commands.{IsBuilt, limit_of}
+use Rattle.st_source.specs.Faults.{source_limit}
 use Rattle.st_tool.specs.Loads.{FitsNames}
 use Rattle.st_tool.specs.Outcome.{most_files}
 use Rattle.st_tool.specs.inner.Answering.{IsAnswerable}

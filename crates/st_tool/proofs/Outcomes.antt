@@ -8,10 +8,11 @@ use Rattle.st_tool.specs.declared.loads.Loaded.TheVariants.{Given, Failed, TooLo
 use Rattle.st_num.specs.declared.memory.NoMemory.{NoMemory}
 use Rattle.st_answers.specs.declared.answer.Answer.{Answer}
 use Rattle.st_answers.specs.declared.status.Status.TheVariants.{Usage, TooLarge}
-use Rattle.st_tool.specs.Commands.{Gives, DeriveGives, IsBuilt, limit_of}
+use Rattle.st_tool.specs.Commands.{Gives, IsBuilt, limit_of}
+use Rattle.st_commands.specs.Derived.{DeriveGives}
 use Rattle.st_answers.specs.Unbuilt.{IsUnbuilt}
-use Rattle.st_tool.specs.Queries.{EvalGives}
-use Rattle.st_tool.specs.Searches.{RunGives, NextGives}
+use Rattle.st_commands.specs.Queries.{EvalGives}
+use Rattle.st_commands.specs.Searches.{RunGives, NextGives}
 use Rattle.st_tool.specs.Loads.{Held, Counts, AreGiven, LoadsTo, FitsNames}
 use Rattle.st_tool.specs.Outcome.{Outcome, HasOutcome, unread, too_many, unbuilt, loads}
 use Rattle.st_tool.specs.Texts.{usage_text, too_many_text}

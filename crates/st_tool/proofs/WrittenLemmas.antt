@@ -11,20 +11,21 @@ use Rattle.st_tool.specs.declared.loads.Loaded.{Loaded}
 use Rattle.st_tool.specs.declared.loads.Loaded.TheVariants.{Given, Failed, TooLong}
 use Rattle.st_answers.specs.declared.status.Status.{Status}
 use Rattle.st_answers.specs.declared.status.Status.TheVariants.{Done, Usage, Specification, Term, Fuel, Depth, NotRunnable, Verification, Load, Write, Memory, TooLarge, Unbuilt}
-use Rattle.st_tool.specs.declared.transcript.Ending.{Ending}
-use Rattle.st_tool.specs.declared.transcript.Ending.TheVariants.{Stuck, Fuel as OutOfFuel}
+use Rattle.st_runs.specs.declared.transcript.Ending.{Ending}
+use Rattle.st_runs.specs.declared.transcript.Ending.TheVariants.{Stuck, Fuel as OutOfFuel}
 use Rattle.st_tool.specs.Causes.{IsLoadFault, FaultIsTold}
-use Rattle.st_tool.specs.Checking.{FilesGive, IlGives, refused as refused_at, empty, parsed, broken, unmoded, accepted as accepted_source}
-use Rattle.st_tool.specs.declared.check.Printed.{Printed}
-use Rattle.st_tool.specs.declared.check.Printed.TheVariants as asked
-use Rattle.st_tool.specs.Commands.{Gives, DeriveGives, limit_of}
+use Rattle.st_commands.specs.Checking.{FilesGive, IlGives, refused as refused_files, accepted as accepted_files}
+use Rattle.st_commands.specs.declared.check.Printed.{Printed}
+use Rattle.st_commands.specs.declared.check.Printed.TheVariants as asked
+use Rattle.st_tool.specs.Commands.{Gives, limit_of}
+use Rattle.st_commands.specs.Derived.{DeriveGives}
 use Rattle.st_answers.specs.Verification.{VerifyGives, malformed, untyped, judged, unjudged, accepted, refused, unfinished, endless}
-use Rattle.st_tool.specs.Queries.{evaluation_depth, OutcomeGives, QueryGives, EvalGives}
-use Rattle.st_tool.specs.Queries as queries
-use Rattle.st_tool.specs.Runs.{RunSays, NextSays}
-use Rattle.st_tool.specs.Searches.{Says, RelationSays, SearchGives, next_depth}
-use Rattle.st_tool.specs.Searches as searches
-use Rattle.st_tool.specs.Transcript.{status_of}
+use Rattle.st_commands.specs.Queries.{evaluation_depth, OutcomeGives, QueryGives, EvalGives}
+use Rattle.st_commands.specs.Queries as queries
+use Rattle.st_runs.specs.Runs.{RunSays, NextSays}
+use Rattle.st_commands.specs.Searches.{Says, RelationSays, SearchGives, next_depth}
+use Rattle.st_commands.specs.Searches as searches
+use Rattle.st_runs.specs.Transcript.{status_of}
 use Rattle.st_tool.specs.Loads.{Held, Counts, LoadsTo}
 use Rattle.st_tool.specs.Outcome.{Outcome, HasOutcome, unread, too_many, unbuilt, loads, Written}
 use Rattle.st_words.specs.declared.command.Command.{Command}
@@ -117,11 +118,8 @@ verify_is_own il derivation status bytes (judged language lines rest typed small
 verify_is_own il derivation status bytes (unjudged language is_text typed not_yet text) = own_unbuilt Unbuilt refl
 
 files_are_own : (printed : Printed) (names files : List (List ℕ)) (status : Status) (bytes : List ℕ) → FilesGive printed names files status bytes → IsOwn status
-files_are_own printed names files status bytes (refused_at name at rule fault named text) = own_specification
-files_are_own printed names files status bytes (empty none text) = own_done
-files_are_own printed names files status bytes (parsed tokens defs all some source (broken b def name breach within file text)) = own_specification
-files_are_own printed names files status bytes (parsed tokens defs all some source (unmoded e place number rule def name elaborated breach placed is within text)) = own_specification
-files_are_own printed names files status bytes (parsed tokens defs all some source (accepted_source e elaborated erased typed kept text)) = own_done
+files_are_own printed names files status bytes (refused_files why) = own_specification
+files_are_own printed names files status bytes (accepted_files defs e is text) = own_done
 
 il_is_own : (names files : List (List ℕ)) (status : Status) (bytes : List ℕ) → IlGives names files status bytes → IsOwn status
 il_is_own names files status bytes (inl (small, one, is, text)) = subst IsOwn (sym is) own_done

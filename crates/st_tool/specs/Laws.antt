@@ -7,7 +7,7 @@ use Rattle.st_il.specs.Small.{il_of}
 use Rattle.st_iltext.specs.IlText.{IlText}
 use Rattle.st_answers.specs.declared.status.Status.{Status}
 use Rattle.st_answers.specs.declared.status.Status.TheVariants as answer
-use Rattle.st_tool.specs.Commands.{IsDerivationText}
+use Rattle.st_commands.specs.Derived.{IsDerivationText}
 use Rattle.st_answers.specs.Verification.{VerifyGives, AreTexts}
 use Rattle.st_semantics.specs.Accepts.{AreSound}
 use Rattle.st_answers.specs.VerdictTexts.{accepted_text}

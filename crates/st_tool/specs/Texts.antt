@@ -1,5 +1,5 @@
 -- The printed texts of commands, beside those of answers.
-use Rattle.std.specs.Prelude.{ℕ, List, ◌++◌, codes, decimal}
+use Rattle.std.specs.Prelude.{ℕ, List, ◌++◌, codes}
 
 -- the words ask for no command
 abbrev pub usage_text : List ℕ
@@ -16,11 +16,3 @@ load_failed_text name = codes "load failed " ++ name ++ codes "\n"
 -- a file is longer than its limit
 abbrev pub too_large_text : List ℕ → List ℕ
 too_large_text name = codes "too large " ++ name ++ codes "\n"
-
--- a specification with so many definitions is accepted
-abbrev pub definitions_text : ℕ → List ℕ
-definitions_text count = codes "accepted " ++ decimal count ++ codes " definitions\n"
-
--- more calls or goals than so many would be open at once
-abbrev pub depth_text : ℕ → List ℕ
-depth_text depth = codes "depth " ++ decimal depth ++ codes "\n"

@@ -10,12 +10,11 @@ ghost use Rattle.st_tool.specs.Outcome.{Outcome, HasOutcome, StopsAt, most_files
 ghost use Rattle.st_words.specs.FileNames.{file_names};
 ghost use Rattle.st_words.specs.Reads.{Reads};
 
-use crate::check::{Printed, answer_files};
 use crate::loads::{Loaded, load_all};
-use crate::queries::eval_files;
-use crate::searches::{next_files, run_files};
-use crate::source::{derive_file, il_files};
 use st_answers::{Answer, Status, line_answer, unbuilt, verify_files};
+use st_commands::{
+    Printed, answer_files, derive_file, eval_files, il_files, next_files, run_files,
+};
 use st_num::{NoMemory, Row};
 use st_outside::Files;
 use st_words::{Command, WordsFault, has_options, read_words};

@@ -14,33 +14,15 @@ ghost use Rattle.st_tool.specs.Laws.{DerivedIsAccepted, AcceptedIsSound};
 ghost use Rattle.st_tool.specs.Loads.{counts_of};
 ghost use Rattle.st_tool.specs.Outcome.{Written};
 
-mod check;
 mod commands;
-mod depth;
-mod derivation;
-mod laws;
 mod loads;
-mod modes;
-mod needed;
-mod nexts;
-mod queries;
-mod query;
-mod running;
-mod searches;
-mod searching;
-mod source;
-mod specification;
-mod step;
-mod transcript;
 
 use commands::answer_words;
-pub use laws::breaches_stand;
 pub use loads::Loaded;
 pub use st_answers::{Answer, Status};
 use st_num::NoMemory;
 use st_outside::{Files, Sink, write_all_of};
 use std::alloc::Global;
-pub use transcript::Ending;
 
 /// Does what the words ask for: loads its files, in the order of the words, and writes its text.
 ///

@@ -1,0 +1,4 @@
+pub mod Reaching
+mod RunLemmas
+mod SearchLemmas
+mod NextLemmas

@@ -1,5 +1,0 @@
-use Rattle.st_tool.proofs.Derivations.{HasDerived}
-use Rattle.st_tool.proofs.derivation.derive.Given as goal
-
-abbrev pub invariant-loop : goal.invariant-loop
-invariant-loop l = HasDerived l.small l.start l.atom l.counter l.lines

@@ -1,5 +1,0 @@
-use Rattle.st_tool.proofs.breach_places.Law.{breaches-stand}
-use Rattle.st_tool.proofs.laws.breaches_stand.Goals as goal
-
-pub returns : goal.returns
-returns c = breaches-stand

@@ -1,7 +1,0 @@
-use Rattle.std.proofs.Common.{refl}
-use Rattle.st_tool.specs.Queries.{evaluation_depth}
-use Rattle.st_tool.proofs.queries.evaluation_depth.Goals as goal
-
-pub returns : goal.returns
-unfolding evaluation_depth
-returns c = refl

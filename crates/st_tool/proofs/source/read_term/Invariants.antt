@@ -1,8 +1,0 @@
-use Rattle.std.proofs.Common.{◌≡◌, ℕ, ◌<◌, List, Some}
-use Rattle.std.specs.Prelude.{slice_get}
-use Rattle.st_tool.specs.Commands.{IsAtomText}
-use Rattle.st_tool.proofs.source.read_term.Given as goal
-
--- none of the atoms before this one is the term
-abbrev pub invariant-loop-atom : goal.invariant-loop-atom
-invariant-loop-atom l = (k : ℕ) (atom : List ℕ) → k < l.atom-index → slice_get l.small.atoms k ≡ Some atom → IsAtomText l.bytes atom → ⊥

@@ -1,7 +1,0 @@
-use Rattle.st_tool.proofs.SmallTexts.{small_il_text}
-use Rattle.st_tool.proofs.source.small_il.Goals as goal
-
-pub returns-clause-bytes : goal.returns-clause-bytes
-returns-clause-bytes c =
-    small_il_text c.args.small.now c.in_ok-il.il c.new-bytes.result.items c.print_il.new.out.items c.requires
-    c.in_ok-il.ensures c.new-bytes.ensures.items c.in_ok-print_il.ensures.ok

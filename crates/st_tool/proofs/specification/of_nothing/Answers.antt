@@ -1,6 +1,0 @@
-use Rattle.st_tool.proofs.Specifications.{nothing_specified}
-use Rattle.st_tool.proofs.specification.of_nothing.Goals as goal
-
-pub returns : goal.returns
-returns c = λ names files all.
-    nothing_specified files c.new.result c.new-2.result c.new-3.result c.new-4.result c.new.ensures c.new-2.ensures c.new-3.ensures c.new-4.ensures all
