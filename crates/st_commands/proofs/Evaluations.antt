@@ -15,6 +15,7 @@ use Rattle.st_elab_rows.specs.Told.{Told}
 use Rattle.st_elab_table.specs.declared.decls.Decls.{Decls}
 use Rattle.st_term.specs.Reading.{IsQuery, IsQueryBreach}
 use Rattle.st_term.specs.TermValue.{nothing}
+use Rattle.st_el.specs.declared.definition.Def.{Def}
 use Rattle.st_elab_def.specs.declared.elaborated.Elaborated.{Elaborated}
 use Rattle.st_num.specs.declared.memory.NoMemory.{NoMemory}
 use Rattle.st_num.specs.declared.rule.RuleId.{RuleId}
@@ -78,11 +79,11 @@ says_breach il depth query found at rule (Ok answer) is comes status_is bytes =
 abbrev pub SaysEval : List (List ℕ) → List ℕ → List (List ℕ) → Result Answer NoMemory → Type 0
 SaysEval names query texts result = IfOk result (λ answer. EvalGives names query texts answer.status answer.bytes.items)
 
-pub says_specified : (names texts : List (List ℕ)) (query : List ℕ) (count : ℕ) (e : Elaborated) (modes : Modes) (depth : ℕ) (result : Result Answer NoMemory)
-    → AreSpecified texts count e modes → depth ≡ evaluation_depth → SaysQuery e.il depth query result → SaysEval names query texts result
-says_specified names texts query count e modes depth (Err f) are same says = tt
-says_specified names texts query count e modes depth (Ok answer) are same says =
-    specified are.defs e are.specification (subst (λ n. QueryGives e.il n query answer.status answer.bytes.items) same says)
+pub says_specified : (names texts : List (List ℕ)) (query : List ℕ) (defs : List Def) (e : Elaborated) (modes : Modes) (depth : ℕ) (result : Result Answer NoMemory)
+    → AreSpecified texts defs e modes → depth ≡ evaluation_depth → SaysQuery e.il depth query result → SaysEval names query texts result
+says_specified names texts query defs e modes depth (Err f) are same says = tt
+says_specified names texts query defs e modes depth (Ok answer) are same says =
+    specified defs e are.specification (subst (λ n. QueryGives e.il n query answer.status answer.bytes.items) same says)
 
 pub says_refused : (names texts : List (List ℕ)) (query : List ℕ) (given : Answer) → RefusesFiles names texts given → EvalGives names query texts given.status given.bytes.items
 says_refused names texts query given refuses =

@@ -1,5 +1,5 @@
 -- What is said of the files of a specification, by what was read of them.
-use Rattle.std.proofs.Common.{◌≡◌, ℕ, List, length, refl, sym, subst}
+use Rattle.std.proofs.Common.{◌≡◌, ℕ, List, refl, sym, subst}
 use Rattle.std.specs.Prelude.{Result, Ok, Err, IfOk}
 use Rattle.st_answers.specs.declared.answer.Answer.{Answer}
 use Rattle.st_answers.specs.declared.status.Status.TheVariants as status
@@ -12,13 +12,13 @@ use Rattle.st_order.specs.declared.relation_modes.Modes.{Modes}
 use Rattle.st_source.specs.inner.Specifying.{AreSpecified, RefusesFiles}
 
 -- files that are a specification give what is printed of it
-pub files_print : (printed : Printed) (names texts : List (List ℕ)) (count : ℕ) (e : Elaborated) (modes : Modes) (result : Result Answer NoMemory) → AreSpecified texts count e modes
+pub files_print : (printed : Printed) (names texts : List (List ℕ)) (defs : List Def) (e : Elaborated) (modes : Modes) (result : Result Answer NoMemory) → AreSpecified texts defs e modes
     → IfOk result (λ answer. answer.status ≡ status.Done)
-    → IfOk result (λ answer. (ds : List Def) (x : Elaborated) → count ≡ length ds → x.il ≡ e.il → Prints printed ds x answer.bytes.items)
+    → IfOk result (λ answer. (x : Elaborated) → x.il ≡ e.il → Prints printed defs x answer.bytes.items)
     → IfOk result (λ answer. FilesGive printed names texts answer.status answer.bytes.items)
-files_print printed names texts count e modes (Err f) are is prints = tt
-files_print printed names texts count e modes (Ok answer) are is prints =
-    subst (λ s. FilesGive printed names texts s answer.bytes.items) (sym is) (accepted are.defs e are.specification (prints are.defs e are.counted refl))
+files_print printed names texts defs e modes (Err f) are is prints = tt
+files_print printed names texts defs e modes (Ok answer) are is prints =
+    subst (λ s. FilesGive printed names texts s answer.bytes.items) (sym is) (accepted defs e are.specification (prints e refl))
 
 -- files that are refused give why
 pub files_refuse : (printed : Printed) (names texts : List (List ℕ)) (given : Answer) → RefusesFiles names texts given → FilesGive printed names texts given.status given.bytes.items

@@ -20,6 +20,7 @@ use Rattle.st_semantics.specs.Goals.{AreInputs}
 use Rattle.st_semantics.specs.Marks.{HasMark}
 use Rattle.st_semantics.specs.Transcript.{Term}
 use Rattle.st_term.specs.Reading.{IsTerm, IsTermBreach}
+use Rattle.st_el.specs.declared.definition.Def.{Def}
 use Rattle.st_elab_def.specs.declared.elaborated.Elaborated.{Elaborated}
 use Rattle.st_answers.specs.declared.answer.Answer.{Answer}
 use Rattle.st_commands.specs.declared.searches.Asked.{Asked}
@@ -97,17 +98,17 @@ module _ (steps : Bool) (Is : Says) (names : List (List ℕ)) (relation : Name) 
       subst (λ z. SearchGives steps Is names relation text files z given.bytes.items) (sym refuses.status) (unspecified refuses.refused)
 
   -- they are a specification
-  pub are_specified : (s : Specification) (count : ℕ) (e : Elaborated) (modes : Modes) (result : Result Answer NoMemory) → Specifies names files s → s ≡ Accepted count e modes
+  pub are_specified : (s : Specification) (defs : List Def) (e : Elaborated) (modes : Modes) (result : Result Answer NoMemory) → Specifies names files s → s ≡ Accepted defs e modes
       → SaysOf steps Is e.il relation text result → GivesOf steps Is names relation text files result
-  are_specified s count e modes (Err none) tells is says = tt
-  are_specified s count e modes (Ok given) tells is says =
-      let has : AreSpecified files count e modes = subst (Specifies names files) is tells in
-      specified has.defs e has.specification says
+  are_specified s defs e modes (Err none) tells is says = tt
+  are_specified s defs e modes (Ok given) tells is says =
+      let has : AreSpecified files defs e modes = subst (Specifies names files) is tells in
+      specified defs e has.specification says
 
 -- the language of a specification breaks no rule
-pub accepted : (names files : List (List ℕ)) (s : Specification) (count : ℕ) (e : Elaborated) (modes : Modes) → Specifies names files s → s ≡ Accepted count e modes → IsAccepted e.il modes
-accepted names files s count e modes tells is =
-    let has : AreSpecified files count e modes = subst (Specifies names files) is tells in has.sound
+pub accepted : (names files : List (List ℕ)) (s : Specification) (defs : List Def) (e : Elaborated) (modes : Modes) → Specifies names files s → s ≡ Accepted defs e modes → IsAccepted e.il modes
+accepted names files s defs e modes tells is =
+    let has : AreSpecified files defs e modes = subst (Specifies names files) is tells in has.sound
 
 -- the name that was copied is the relation's
 pub of_name : (asked : Asked) (names : List (List ℕ)) (copied relation : Name) (text : List ℕ) (files : List (List ℕ)) (result : Result Answer NoMemory) → copied ≡ relation

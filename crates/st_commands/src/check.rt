@@ -1,16 +1,16 @@
 //! What is printed of the files of a specification: its first fault or breach, or what is asked for.
 
-ghost use Rattle.std.specs.Prelude.{◌≡◌, ◌≤◌, List, length, All, IfOk};
+ghost use Rattle.std.specs.Prelude.{◌≡◌, ◌≤◌, length, All, IfOk};
 ghost use Rattle.st_iltext.specs.IlText.{il_text};
 ghost use Rattle.st_order.specs.Modes.{HasFew, AreModes};
 ghost use Rattle.st_commands.specs.Checking.{Prints, FilesGive};
 ghost use Rattle.st_elab_def.specs.declared.elaborated.Elaborated.{Elaborated as Elaboration};
-ghost use Rattle.st_el.specs.declared.definition.Def.{Def as Definition};
 ghost use Rattle.st_source.specs.Faults.{source_limit};
 ghost use Rattle.st_commands.specs.Checking.{definitions_text};
 
 use itoa::Buffer;
 use st_answers::{Answer, Status, groups_printed, orders_printed};
+use st_el::Def;
 use st_il::Il;
 use st_iltext::print_il;
 use st_num::{NoMemory, Row};
@@ -52,24 +52,23 @@ fn language(alloc: Global, il: &Il) -> Result<Vec<u8>, NoMemory>
     Ok(bytes)
 }
 
-/// The answer where a specification with so many definitions, and this internal language with its
-/// modes, is accepted.
+/// The answer where a specification of these definitions, with this internal language and its modes,
+/// is accepted.
 fn accepted(
     alloc: Global,
     printed: Printed,
-    definitions: u64,
+    definitions: &[Def],
     il: &Il,
     modes: &Modes,
 ) -> Result<Answer, NoMemory>
     requires few { HasFew il.now }
     requires modes { AreModes il.now modes.now }
     ensures status { IfOk result (λ answer. answer.status ≡ Status.Done) }
-    ensures bytes { IfOk result (λ answer. (defs : List Definition) (e : Elaboration)
-        → definitions ≡ length defs → e.il ≡ il.now
-        → Prints printed defs e answer.bytes.items) }
+    ensures bytes { IfOk result (λ answer. (e : Elaboration) → e.il ≡ il.now
+        → Prints printed definitions.now e answer.bytes.items) }
 {
     let bytes = match printed {
-        Printed::Count => counted(alloc, definitions)?,
+        Printed::Count => counted(alloc, definitions.len() as u64)?,
         Printed::Language => language(alloc, il)?,
         Printed::Groups => groups_printed(alloc, il)?,
         Printed::Orders => orders_printed(alloc, il, modes)?,
@@ -99,7 +98,13 @@ pub fn answer_files(
             definitions,
             elaborated,
             modes,
-        } => accepted(alloc, printed, definitions, &elaborated.il, &modes),
+        } => accepted(
+            alloc,
+            printed,
+            definitions.as_slice(),
+            &elaborated.il,
+            &modes,
+        ),
         Specification::Refused(answer) => Ok(answer),
     }
 }

@@ -44,21 +44,14 @@ refuses_files names texts (Ok answer) is says = record { status = is; refused = 
 
 -- ---- what is accepted
 
-pub sound_source : (defs : List Def) (count : ℕ) (e : Elaborated) (found : Result Modes ModeFault) (modes : Modes) → count ≡ length defs → IsElaborated defs e → ErasesTo defs e
-    → Typed e.il → HasFew e.il → IsModesAnswer e.il found → found ≡ Ok modes → AreSound defs count e modes
-sound_source defs count e found modes counted elaborated erased typed few answers is =
-    let kept = subst (IsModesAnswer e.il) is answers in
-    record { counted = counted; elaborated = elaborated; erased = erased; sound = record { typed = typed; keeps = kept.0; few = few; modes_are = kept.1 } }
-
 -- what is known of definitions is known of the files that they are read from
 pub source_specifies : (names texts : List (List ℕ)) (tokens : List Token) (defs : List Def) (result : Result Specification NoMemory) → AllTokens 0 texts tokens → tokens ≢ []
     → IsSource tokens defs → IfOk result (SpecifiesSource names defs) → IfOk result (Specifies names texts)
 source_specifies names texts tokens defs (Err e) all some is specified = tt
-source_specifies names texts tokens defs (Ok (Accepted count e modes)) all some is h = record {
-  defs = defs;
-  counted = h.counted;
-  specification = files.source tokens all some is h.elaborated h.erased h.sound.typed h.sound.keeps;
-  sound = h.sound;
+source_specifies names texts tokens defs (Ok (Accepted given e modes)) all some is h = record {
+  specification =
+      subst (λ (ds : List Def). files.IsSpecification texts ds e) (sym h.0) (files.source tokens all some is h.1.elaborated h.1.erased h.1.sound.typed h.1.sound.keeps);
+  sound = h.1.sound;
 }
 source_specifies names texts tokens defs (Ok (Refused given)) all some is h =
     record { status = h.status; refused = parsed tokens defs all some is h.refused }
@@ -73,11 +66,13 @@ nothing_sound = record {
   modes_are = record { marks = tt; orders = refl };
 }
 
-pub nothing_specified : (texts : List (List ℕ)) (ds : List IlDef) (sources : List ℕ) (marks : List (Option Unfit)) (orders : List (List (Option (List ℕ)))) → ds ≡ [] → sources ≡ [] → marks ≡ []
-    → orders ≡ [] → AllTokens 0 texts [] → AreSpecified texts 0 (record { il = record { defs = ds }; sources = sources }) (record { marks = marks; orders = orders })
-nothing_specified texts ds sources marks orders no_defs no_sources no_marks no_orders all =
-    subst (λ (z : List IlDef). AreSpecified texts 0 (record { il = record { defs = z }; sources = sources }) (record { marks = marks; orders = orders })) (sym no_defs)
-    (subst (λ (z : List ℕ). AreSpecified texts 0 (record { il = record { defs = [] }; sources = z }) (record { marks = marks; orders = orders })) (sym no_sources)
-    (subst (λ (z : List (Option Unfit)). AreSpecified texts 0 nothing (record { marks = z; orders = orders })) (sym no_marks)
-    (subst (λ (z : List (List (Option (List ℕ)))). AreSpecified texts 0 nothing (record { marks = []; orders = z })) (sym no_orders)
-    (record { defs = []; counted = refl; specification = files.empty all; sound = nothing_sound }))))
+pub nothing_specified : (texts : List (List ℕ)) (defs : List Def) (ds : List IlDef) (sources : List ℕ) (marks : List (Option Unfit)) (orders : List (List (Option (List ℕ)))) → defs ≡ []
+    → ds ≡ [] → sources ≡ [] → marks ≡ [] → orders ≡ [] → AllTokens 0 texts []
+    → AreSpecified texts defs (record { il = record { defs = ds }; sources = sources }) (record { marks = marks; orders = orders })
+nothing_specified texts defs ds sources marks orders none no_defs no_sources no_marks no_orders all =
+    subst (λ (z : List Def). AreSpecified texts z (record { il = record { defs = ds }; sources = sources }) (record { marks = marks; orders = orders })) (sym none)
+    (subst (λ (z : List IlDef). AreSpecified texts [] (record { il = record { defs = z }; sources = sources }) (record { marks = marks; orders = orders })) (sym no_defs)
+    (subst (λ (z : List ℕ). AreSpecified texts [] (record { il = record { defs = [] }; sources = z }) (record { marks = marks; orders = orders })) (sym no_sources)
+    (subst (λ (z : List (Option Unfit)). AreSpecified texts [] nothing (record { marks = z; orders = orders })) (sym no_marks)
+    (subst (λ (z : List (List (Option (List ℕ)))). AreSpecified texts [] nothing (record { marks = []; orders = z })) (sym no_orders)
+    (record { specification = files.empty all; sound = nothing_sound })))))

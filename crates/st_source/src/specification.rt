@@ -35,8 +35,8 @@ const NO_DEFINITION: &[u8] = b"-";
 pub enum Specification {
     /// It has no fault and breaks no rule.
     Accepted {
-        /// How many definitions it has.
-        definitions: u64,
+        /// Its definitions, as they stand in the files.
+        definitions: Row<Def>,
         elaborated: Elaborated,
         modes: Modes,
     },
@@ -106,25 +106,26 @@ fn broken(
 fn with_modes(
     alloc: Global,
     names: &[CommandWord],
-    defs: &[Def],
+    definitions: Row<Def>,
     elaborated: Elaborated,
 ) -> Result<Specification, NoMemory>
-    requires elaborated { IsElaborated defs.now elaborated }
-    requires erased { ErasesTo defs.now elaborated }
+    requires elaborated { IsElaborated definitions elaborated }
+    requires erased { ErasesTo definitions elaborated }
     requires typed { Typed elaborated.il }
-    requires begin { BeginWithin (length names.now) defs.now }
-    ensures { IfOk result (SpecifiesSource names.now defs.now) }
+    requires begin { BeginWithin (length names.now) definitions }
+    ensures { IfOk result (SpecifiesSource names.now definitions) }
 {
     if !has_few(&elaborated.il) {
         return Err(NoMemory);
     }
     match modes(alloc, &elaborated.il) {
         Ok(modes) => Ok(Specification::Accepted {
-            definitions: defs.len() as u64,
+            definitions,
             elaborated,
             modes,
         }),
         Err(fault) => {
+            let defs = definitions.as_slice();
             let answer = without_modes(alloc, names, defs, &elaborated, fault)?;
             Ok(Specification::Refused(answer))
         }
@@ -132,17 +133,21 @@ fn with_modes(
 }
 
 /// Elaborates the definitions of a source in the files of these names.
-fn of_source(alloc: Global, names: &[CommandWord], defs: &[Def]) -> Result<Specification, NoMemory>
-    requires templates { HasTemplates defs.now }
-    requires repeats { RepeatNoOtherwise defs.now }
-    requires within { BreachesWithin (length names.now) defs.now }
-    requires begin { BeginWithin (length names.now) defs.now }
-    ensures { IfOk result (SpecifiesSource names.now defs.now) }
+fn of_source(
+    alloc: Global,
+    names: &[CommandWord],
+    definitions: Row<Def>,
+) -> Result<Specification, NoMemory>
+    requires templates { HasTemplates definitions }
+    requires repeats { RepeatNoOtherwise definitions }
+    requires within { BreachesWithin (length names.now) definitions }
+    requires begin { BeginWithin (length names.now) definitions }
+    ensures { IfOk result (SpecifiesSource names.now definitions) }
 {
-    match elaborate(alloc, defs) {
-        Ok(elaborated) => with_modes(alloc, names, defs, elaborated),
+    match elaborate(alloc, definitions.as_slice()) {
+        Ok(elaborated) => with_modes(alloc, names, definitions, elaborated),
         Err(DefFault::Refused(breach)) => {
-            let answer = broken(alloc, names, defs, breach)?;
+            let answer = broken(alloc, names, definitions.as_slice(), breach)?;
             Ok(Specification::Refused(answer))
         }
         Err(DefFault::Memory) => Err(NoMemory),
@@ -177,7 +182,7 @@ fn of_tokens(
     ensures { IfOk result (Specifies names.now files.now) }
 {
     match parse(alloc, tokens) {
-        Ok(defs) => of_source(alloc, names, defs.as_slice()),
+        Ok(definitions) => of_source(alloc, names, definitions),
         Err(fault) => of_faulty(alloc, names, files, fault),
     }
 }
@@ -187,7 +192,7 @@ fn of_nothing(alloc: Global) -> Specification
     ensures { (names files : List (List ℕ)) → AllTokens 0 files [] → Specifies names files result }
 {
     Specification::Accepted {
-        definitions: 0,
+        definitions: Row::new(alloc),
         elaborated: Elaborated {
             il: Il {
                 defs: Row::new(alloc),

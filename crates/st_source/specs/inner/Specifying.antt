@@ -1,5 +1,5 @@
 -- What is known of a specification that was read, from its definitions and from its files.
-use Rattle.std.specs.Prelude.{◌≡◌, ℕ, List, length}
+use Rattle.std.specs.Prelude.{◌≡◌, ℕ, List}
 use Rattle.st_el.specs.declared.definition.Def.{Def}
 use Rattle.st_il.specs.declared.definition.Il.{Il}
 use Rattle.st_elab_def.specs.Elaboration.{IsElaborated}
@@ -23,9 +23,8 @@ pub record IsAccepted (il : Il) (modes : Modes) : Type 0 where
   pub few : HasFew il
   pub modes_are : AreModes il modes
 
--- so many definitions, which are elaborated to a sound language
-pub record AreSound (defs : List Def) (count : ℕ) (e : Elaborated) (modes : Modes) : Type 0 where
-  pub counted : count ≡ length defs
+-- definitions that are elaborated to a sound language
+pub record AreSound (defs : List Def) (e : Elaborated) (modes : Modes) : Type 0 where
   pub elaborated : IsElaborated defs e
   pub erased : ErasesTo defs e
   pub sound : IsAccepted e.il modes
@@ -38,14 +37,12 @@ pub record RefusesSource (names : List (List ℕ)) (defs : List Def) (given : An
 
 -- what is known of the definitions of a source in files of these names
 abbrev pub SpecifiesSource : List (List ℕ) → List Def → Specification → Type 0
-SpecifiesSource names defs (Accepted count e modes) = AreSound defs count e modes
+SpecifiesSource names defs (Accepted given e modes) = (given ≡ defs) × AreSound defs e modes
 SpecifiesSource names defs (Refused given) = RefusesSource names defs given
 
--- the files have so many definitions, which are elaborated to a sound language
-pub record AreSpecified (files : List (List ℕ)) (count : ℕ) (e : Elaborated) (modes : Modes)
+-- the files have these definitions, which are elaborated to a sound language
+pub record AreSpecified (files : List (List ℕ)) (defs : List Def) (e : Elaborated) (modes : Modes)
     : Type 0 where
-  pub defs : List Def
-  pub counted : count ≡ length defs
   pub specification : IsSpecification files defs e
   pub sound : IsAccepted e.il modes
 
@@ -56,5 +53,5 @@ pub record RefusesFiles (names files : List (List ℕ)) (given : Answer) : Type 
 
 -- what is known of the files of these names
 abbrev pub Specifies : List (List ℕ) → List (List ℕ) → Specification → Type 0
-Specifies names files (Accepted count e modes) = AreSpecified files count e modes
+Specifies names files (Accepted defs e modes) = AreSpecified files defs e modes
 Specifies names files (Refused given) = RefusesFiles names files given
