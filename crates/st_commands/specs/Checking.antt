@@ -6,12 +6,13 @@ use Rattle.st_deps.specs.Cited.{Name}
 use Rattle.st_deps.specs.Definitions.{Cites, declared}
 use Rattle.st_deps.specs.Groups.{AreGroups}
 use Rattle.st_commands.specs.declared.check.Printed.{Printed}
-use Rattle.st_commands.specs.declared.check.Printed.TheVariants.{Count, Language, Groups, Orders}
+use Rattle.st_commands.specs.declared.check.Printed.TheVariants.{Count, Language, Groups, Orders, Latex}
 use Rattle.st_answers.specs.declared.status.Status.{Status}
 use Rattle.st_answers.specs.declared.status.Status.TheVariants as answer
 use Rattle.st_il.specs.declared.small.Small.{Small}
 use Rattle.st_il.specs.Small.{il_of}
 use Rattle.st_iltext.specs.IlText.{IlText, il_text}
+use Rattle.st_latex.specs.LatexText.{latex_text}
 use Rattle.st_answers.specs.OrderTexts.{orders_text}
 use Rattle.st_small.specs.SmallText.{IsTextOf}
 use Rattle.st_source.specs.Refused.{AreRefused}
@@ -25,7 +26,8 @@ abbrev pub definitions_text : ℕ → List ℕ
 definitions_text count = codes "accepted " ++ decimal count ++ codes " definitions\n"
 
 -- The text that is asked for, of definitions without a breach and of what they are elaborated to:
--- how many they are, their internal language, its groups, or the orders of its rules.
+-- how many they are, their internal language, its groups, the orders of its rules, or the definitions
+-- in LaTeX.
 abbrev pub Prints : Printed → List Def → Elaborated → List ℕ → Type 0
 Prints Count defs e bytes = bytes ≡ definitions_text (length defs)
 Prints Language defs e bytes = bytes ≡ il_text e.il
@@ -33,6 +35,7 @@ Prints Groups defs e bytes =
     (groups : List (List Name)) × AreGroups (Cites e.il) (declared e.il) groups
     × (bytes ≡ groups_text groups)
 Prints Orders defs e bytes = bytes ≡ orders_text e.il
+Prints Latex defs e bytes = bytes ≡ latex_text defs
 
 -- ---- files
 
@@ -69,3 +72,7 @@ GroupsGive = FilesGive Groups
 -- what is said of files whose orders are asked for: their first fault or breach, or the orders
 abbrev pub OrdersGive : List (List ℕ) → List (List ℕ) → Status → List ℕ → Type 0
 OrdersGive = FilesGive Orders
+
+-- what is said of files whose LaTeX is asked for: their first fault or breach, or their definitions
+abbrev pub LatexGives : List (List ℕ) → List (List ℕ) → Status → List ℕ → Type 0
+LatexGives = FilesGive Latex

@@ -2,6 +2,7 @@
 
 ghost use Rattle.std.specs.Prelude.{◌≡◌, ◌≤◌, length, All, IfOk};
 ghost use Rattle.st_iltext.specs.IlText.{il_text};
+ghost use Rattle.st_latex.specs.LatexText.{latex_text};
 ghost use Rattle.st_order.specs.Modes.{HasFew, AreModes};
 ghost use Rattle.st_commands.specs.Checking.{Prints, FilesGive};
 ghost use Rattle.st_elab_def.specs.declared.elaborated.Elaborated.{Elaborated as Elaboration};
@@ -13,6 +14,7 @@ use st_answers::{Answer, Status, groups_printed, orders_printed};
 use st_el::Def;
 use st_il::Il;
 use st_iltext::print_il;
+use st_latex::latex;
 use st_num::{NoMemory, Row};
 use st_order::Modes;
 use st_source::{Specification, read_specification};
@@ -30,6 +32,8 @@ pub enum Printed {
     Groups,
     /// The order in which the premises of each of its rules are run.
     Orders,
+    /// Its definitions in LaTeX.
+    Latex,
 }
 
 /// The line with so many definitions.
@@ -49,6 +53,15 @@ fn language(alloc: Global, il: &Il) -> Result<Vec<u8>, NoMemory>
 {
     let mut bytes = Vec::new(alloc);
     print_il(alloc, il, &mut bytes)?;
+    Ok(bytes)
+}
+
+/// The LaTeX text of these definitions.
+fn typeset(alloc: Global, definitions: &[Def]) -> Result<Vec<u8>, NoMemory>
+    ensures { IfOk result (λ bytes. bytes.items ≡ latex_text definitions.now) }
+{
+    let mut bytes = Vec::new(alloc);
+    latex(alloc, definitions, &mut bytes)?;
     Ok(bytes)
 }
 
@@ -72,6 +85,7 @@ fn accepted(
         Printed::Language => language(alloc, il)?,
         Printed::Groups => groups_printed(alloc, il)?,
         Printed::Orders => orders_printed(alloc, il, modes)?,
+        Printed::Latex => typeset(alloc, definitions)?,
     };
     Ok(Answer {
         status: Status::Done,

@@ -147,7 +147,7 @@ gives_own (Check names) files status bytes gives = files_are_own asked.Count nam
 gives_own (Groups names) files status bytes gives = files_are_own asked.Groups names files status bytes gives
 gives_own (Order names) files status bytes gives = files_are_own asked.Orders names files status bytes gives
 gives_own (Prose names) files status bytes gives = absurd gives
-gives_own (Latex names) files status bytes gives = absurd gives
+gives_own (Latex names) files status bytes gives = files_are_own asked.Latex names files status bytes gives
 gives_own (Make n) files status bytes gives = absurd gives
 
 -- no status but these two is ascribed to the loads
