@@ -20,7 +20,7 @@ pub mod meet;
 mod reading;
 pub mod variables;
 
-pub use calls::{call, value};
+pub use calls::{call, call_in, value, value_in};
 pub use condition::{Met, meet_condition, tested};
 pub use evaluable::typed_languages_are_evaluable;
 pub use laws::steps_of_clauses;

@@ -13,14 +13,15 @@ use Rattle.st_il.specs.Definitions.{IsRelation, rules_of}
 use Rattle.st_semantics.specs.Derivation.{Derivable}
 use Rattle.st_semantics.specs.Goals.{Goal}
 use Rattle.st_semantics.specs.Chains.{Follows}
-use Rattle.st_order.specs.Known.{all_now}
+use Rattle.st_index.specs.Names.{all_now}
+use Rattle.st_index.specs.Numbers.{IsFirstRelation}
 use Rattle.st_search.specs.declared.answer.Output.{Output}
 use Rattle.st_search.specs.declared.answer.SearchFault.{SearchFault}
 use Rattle.st_search.specs.Answers.{AreSorted}
 use Rattle.st_search.specs.inner.Chains.{EndsBehind}
 use Rattle.st_search.specs.inner.Contracts.{IsShort}
 use Rattle.st_search.specs.inner.Ordered.{AreAdded}
-use Rattle.st_search.specs.inner.Rules.{CanBeSearched, IsFirstRelation, numbered_seeks, goal_seeks}
+use Rattle.st_search.specs.inner.Rules.{CanBeSearched, numbered_seeks, goal_seeks}
 use Rattle.st_search.specs.inner.Search.{Solvings, AnswersGoals}
 use Rattle.st_search.specs.inner.Sought.{Finds}
 use Rattle.st_search.proofs.FromRules.{rules_seek, rules_start, rules_step, goal_finds}

@@ -29,6 +29,7 @@ mod found;
 mod gather;
 mod goal;
 mod holes;
+mod language;
 mod literals;
 mod ordered;
 mod orders;
@@ -43,6 +44,7 @@ mod stop;
 mod tree;
 
 pub use answer::{Chain, Output, Outputs, SearchFault};
+pub use language::{SearchedLanguage, searched_language};
 pub use literals::proper;
-pub use search::outputs;
+pub use search::{outputs, outputs_in};
 pub use searchable::typed_languages_are_searchable;
