@@ -1,8 +1,5 @@
 -- What the rule of a number finds: in its order, or nothing where it has none; and relations and rules by their numbers.
-use Rattle.std.proofs.Common.{arith, ◌≡◌, refl, sym, ◌∙◌, ap, subst, ℕ, zero, suc, ◌<◌, ◌≤◌, ◌^◌, Bool, true, false, if◌then◌else◌, List, [], ◌∷◌, length, take, get_or, Some, None, Ok, slice_get, bytes_eq, All, inl}
-use Rattle.std.specs.Borrow.{Bor}
-use Rattle.std.specs.Prelude.{find}
-use Rattle.std.proofs.lemmas.List.Elements.{All-head, All-tail}
+use Rattle.std.proofs.Common.{arith, ◌≡◌, refl, sym, ◌∙◌, ap, subst, ℕ, ◌<◌, ◌≤◌, ◌^◌, Bool, true, false, if◌then◌else◌, List, [], ◌∷◌, length, Some, None, Ok, slice_get, bytes_eq, All, inl}
 use Rattle.std.proofs.lemmas.Option.{slice_get_within}
 use Rattle.st_il.specs.declared.definition.Il.{Il}
 use Rattle.st_il.specs.declared.definition.IlDef.{IlDef}
@@ -17,7 +14,6 @@ use Rattle.st_semantics.specs.Derivation.{Derivable}
 use Rattle.st_semantics.specs.Directions.{direction}
 use Rattle.st_semantics.specs.OrderOf.{order_of}
 use Rattle.st_semantics.specs.Goals.{Goal}
-use Rattle.st_semantics.proofs.Names.{bytes-path}
 use Rattle.st_index.specs.Numbers.{IsFirstRelation}
 use Rattle.st_order.specs.Modes.{HasFew}
 use Rattle.st_algo.specs.declared.algorithm.Algorithm.{Algorithm}
