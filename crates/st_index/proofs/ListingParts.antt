@@ -1,6 +1,6 @@
 -- The first of each name in a list: its number, and what is found there.
 use Rattle.std.proofs.Common.{◌≡◌, refl, sym, ap, ◌∙◌, subst, ℕ, zero, suc, ◌+◌, ◌<◌, ◌≤◌, Bool, true, false, true≢false, cond, not, if◌then◌else◌, List, [], ◌∷◌, take, length, slice_get, Option, Some, None, arith, add-one, bytes_eq}
-use Rattle.std.specs.Prelude.{nat_lt, position, find}
+use Rattle.std.specs.Prelude.{nat_lt, position, find, is_some, MatchOption}
 use Rattle.std.specs.Borrow.{Bor}
 use Rattle.std.specs.List.{position_or_len}
 use Rattle.std.specs.Option.{option_map}
@@ -34,10 +34,16 @@ add-new entries new name number none put q = put q ∙ by (at entries q) (bytes_
 
 -- the number of the first one, member by member
 position-cons : {A : Type 0} (test : A → Bool) (x : A) (xs : List A) → position test (x ∷ xs) ≡ (if test x then Some 0 else option_map suc (position test xs))
-position-cons test x xs = by (test x) (nat_lt (position_or_len test xs) (length xs)) refl refl
+position-cons test x xs = by (test x)
   where
-    by : (b c : Bool) → test x ≡ b → nat_lt (position_or_len test xs) (length xs) ≡ c → position test (x ∷ xs) ≡ (if b then Some 0 else option_map suc (position test xs))
-    by b c e f = ?
+    counted : (c : Bool) (n : ℕ) → cond c (Some (suc n)) None ≡ option_map suc (cond c (Some n) None)
+    counted true n = refl
+    counted false n = refl
+
+    by : (b : Bool) → cond (nat_lt (cond (not b) (1 + position_or_len test xs) 0) (suc (length xs))) (Some (cond (not b) (1 + position_or_len test xs) 0)) None
+        ≡ (if b then Some 0 else option_map suc (cond (nat_lt (position_or_len test xs) (length xs)) (Some (position_or_len test xs)) None))
+    by true = refl
+    by false = counted (nat_lt (position_or_len test xs) (length xs)) (position_or_len test xs)
 
 map-adding : (o : Option ℕ) (b : Bool) (k : ℕ) → option_map suc (adding o b k) ≡ adding (option_map suc o) b (suc k)
 map-adding (Some p) b k = refl
@@ -63,18 +69,27 @@ record First {A : Type 0} (test : A → Bool) (xs : List A) (number : ℕ) : Typ
   pub passes : test one ≡ true
 
 first-at : {A : Type 0} (test : A → Bool) (xs : List A) (number : ℕ) → position test xs ≡ Some number → First test xs number
-first-at test [] number e = cc
-first-at test (x ∷ xs) number e = by (test x) (position test xs) refl refl (sym (position-cons test x xs) ∙ e)
+first-at test [] number e = absurd (true≢false (sym (ap is_some e)))
+first-at {A} test (x ∷ xs) number e = by (test x) (position test xs) refl refl (first-at test xs) (sym (position-cons test x xs) ∙ e)
   where
-    by : (b : Bool) (o : Option ℕ) → test x ≡ b → position test xs ≡ o → (if test x then Some 0 else option_map suc (position test xs)) ≡ Some number → First test (x ∷ xs) number
-    by b o t f h = ?
+    by : (b : Bool) (o : Option ℕ) → test x ≡ b → position test xs ≡ o → ((p : ℕ) → position test xs ≡ Some p → First test xs p) → (if b then Some 0 else option_map suc o) ≡ Some number → First test (x ∷ xs) number
+    by true o t f next h =
+        let n : 0 ≡ number = cc in
+        record { one = x; is = ap (slice_get (x ∷ xs)) (sym n); found = ap (λ c. cond c (Some x) (find test xs)) t; passes = t }
+    by false None t f next h = absurd (true≢false (sym (ap is_some h)))
+    by false (Some p) t f next h =
+        let n : suc p ≡ number = cc in
+        let r : First test xs p = next p f in
+        record { one = r.one; is = ap (slice_get (x ∷ xs)) (sym n) ∙ r.is; found = ap (λ c. cond c (Some x) (find test xs)) t ∙ r.found; passes = r.passes }
 
 first-none : {A : Type 0} (test : A → Bool) (xs : List A) → position test xs ≡ None → find test xs ≡ None
 first-none test [] e = refl
-first-none test (x ∷ xs) e = by (test x) (position test xs) refl refl (sym (position-cons test x xs) ∙ e)
+first-none test (x ∷ xs) e = by (test x) (position test xs) refl refl (first-none test xs) (sym (position-cons test x xs) ∙ e)
   where
-    by : (b : Bool) (o : Option ℕ) → test x ≡ b → position test xs ≡ o → (if test x then Some 0 else option_map suc (position test xs)) ≡ None → find test (x ∷ xs) ≡ None
-    by b o t f h = ?
+    by : (b : Bool) (o : Option ℕ) → test x ≡ b → position test xs ≡ o → (position test xs ≡ None → find test xs ≡ None) → (if b then Some 0 else option_map suc o) ≡ None → find test (x ∷ xs) ≡ None
+    by true o t f next h = absurd (true≢false (ap is_some h))
+    by false (Some p) t f next h = absurd (true≢false (ap is_some h))
+    by false None t f next h = ap (λ c. cond c (Some x) (find test xs)) t ∙ next f
 
 -- ---- the numbers of names
 
@@ -101,3 +116,8 @@ module _ {A : Type 0} (name_of : A → Name) where
   found-at xs name number o e read =
       let f : First (λ x. bytes_eq name (name_of x)) xs number = first-at (λ x. bytes_eq name (name_of x)) xs number e in
       read ∙ f.is ∙ sym f.found
+
+  pub first-or-none : (xs : List A) (name : Name) (o : Option ℕ) → o ≡ position (λ x. bytes_eq name (name_of x)) xs
+      → MatchOption o (find (λ x. bytes_eq name (name_of x)) xs ≡ None) (λ number. IsFirstNamed name_of xs number name)
+  first-or-none xs name None e = is-none xs name (sym e)
+  first-or-none xs name (Some number) e = is-first xs name number (sym e)

@@ -69,3 +69,20 @@ following f head xs i x now new whole h e inv n =
 -- all were added
 pub ended : {A B : Type 0} (f : List A → List B) → f [] ≡ [] → (xs : List A) (i : ℕ) (now whole : List B) → length xs ≤ i → now ++ f (drop i xs) ≡ whole → now ≡ whole
 ended f none xs i now whole h inv = sym (append-nil now) ∙ ap (λ z. now ++ z) (sym (ap f (drop_all xs i h) ∙ none)) ∙ inv
+
+-- ---- what stands at the place of a key
+
+module _ {A : Type 0} (entries : List (Bor (List ℕ) × A)) (found : Option A) where
+  -- what is read at the place that there is, or nothing where there is none
+  pub placed : (place : Option ℕ) → is_some place ≡ is_some found → ((i : ℕ) → place ≡ Some i → slice_get (map (λ (e : Bor (List ℕ) × A). e.1) entries) i ≡ found)
+      → option_and_then (slice_get (map (λ (e : Bor (List ℕ) × A). e.1) entries)) place ≡ found
+  placed None h read = by found h
+    where
+      by : (o : Option A) → false ≡ is_some o → None ≡ o
+      by None h = refl
+      by (Some x) h = absurd (true≢false (sym h))
+  placed (Some i) h read = read i refl
+
+-- the reference that is read at a place, where the references are to these
+pub read_now : {A : Type 0} (refs : List (Bor A)) (xs : List A) (i : ℕ) (found : Option (Bor A)) → found ≡ slice_get refs i → all_now refs ≡ xs → option_copied found ≡ slice_get xs i
+read_now refs xs i found is all = copied_now found ∙ ap (option_map (λ r. r.now)) is ∙ sym (get_now refs i) ∙ ap (λ ys. slice_get ys i) all
