@@ -43,7 +43,9 @@ position-cons test x xs = by (test x)
     by : (b : Bool) → cond (nat_lt (cond (not b) (1 + position_or_len test xs) 0) (suc (length xs))) (Some (cond (not b) (1 + position_or_len test xs) 0)) None
         ≡ (if b then Some 0 else option_map suc (cond (nat_lt (position_or_len test xs) (length xs)) (Some (position_or_len test xs)) None))
     by true = refl
-    by false = counted (nat_lt (position_or_len test xs) (length xs)) (position_or_len test xs)
+    by false =
+        let more : 1 + position_or_len test xs ≡ suc (position_or_len test xs) = omega arith in
+        ap (λ n. cond (nat_lt n (suc (length xs))) (Some n) None) more ∙ counted (nat_lt (position_or_len test xs) (length xs)) (position_or_len test xs)
 
 map-adding : (o : Option ℕ) (b : Bool) (k : ℕ) → option_map suc (adding o b k) ≡ adding (option_map suc o) b (suc k)
 map-adding (Some p) b k = refl
