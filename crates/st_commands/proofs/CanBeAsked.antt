@@ -1,4 +1,4 @@
--- What can be asked of a relation and searched: by which algorithms, and what is derivable then.
+-- What can be asked of a relation and searched, and what is derivable then.
 use Rattle.std.proofs.Common.{◌≡◌, ◌≤◌, sym, ◌∙◌, subst, true, false, List, None}
 use Rattle.st_algo.specs.declared.algorithm.Algos.{Algos}
 use Rattle.st_algo.specs.Lowered.{AreLowered}
@@ -32,14 +32,13 @@ module _ (q : Question) (can : CanBeAsked q) (searched : CanBeSearched q) (langu
   language : IsSearchable q.il.now (syntaxes q.il.now) algos
   language = languages q.il.now q.modes.now algos can.accepted.typed can.proper can.accepted.keeps can.accepted.few can.accepted.modes_are lowered
 
-  language_with : (types : List SyntaxDef) → types ≡ q.decls.now.types → IsSearchable q.il.now types algos
-  language_with types is = subst (λ ts. IsSearchable q.il.now ts algos) (sym (is ∙ table_of q.il.now q.decls.now can.decls)) language
+  -- the language can be searched by these algorithms, over the declared types
+  pub CanBeAsked-language : (types : List SyntaxDef) → types ≡ q.decls.now.types → IsSearchable q.il.now types algos
+  CanBeAsked-language types is = subst (λ ts. IsSearchable q.il.now ts algos) (sym (is ∙ table_of q.il.now q.decls.now can.decls)) language
 
-  -- the relation can be searched by these algorithms
-  pub CanBeAsked-can_search : (s : Searching) → s.il.now ≡ q.il.now → s.types.now ≡ q.decls.now.types → s.algos.now ≡ algos → s.relation.now ≡ q.relation.now → s.depth ≡ depth_of q.asked
-      → CanSearch s
-  CanBeAsked-can_search s il_is types_are algos_are relation_is depth_is = record {
-    language = subst (λ il. IsSearchable il s.types.now s.algos.now) (sym il_is) (subst (λ xs. IsSearchable q.il.now s.types.now xs) (sym algos_are) (language_with s.types.now types_are));
+  -- the relation can be searched
+  pub CanBeAsked-can_search : (s : Searching) → s.language.now ≡ q.il.now → s.relation.now ≡ q.relation.now → s.depth ≡ depth_of q.asked → CanSearch s
+  CanBeAsked-can_search s il_is relation_is depth_is = record {
     relation = subst (λ il. HasMark il false s.relation.now None) (sym il_is)
         (subst (λ r. HasMark q.il.now false r None) (sym relation_is) (without_steps q.il.now (asks_steps q.asked) q.relation.now searched.mark));
     plain = subst (λ il. HasNoOtherwise il s.relation.now) (sym il_is) (subst (HasNoOtherwise q.il.now) (sym relation_is) searched.plain);

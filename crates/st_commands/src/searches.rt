@@ -19,7 +19,7 @@ use st_num::{Fault, Name, NoMemory, Row};
 use st_order::masks::mask_under;
 use st_order::{Modes, directions_of, relations_of};
 use st_runs::{Searching, next, run};
-use st_search::{proper, typed_languages_are_searchable};
+use st_search::{proper, searched_language, typed_languages_are_searchable};
 use st_semantics::meaning_of_rules;
 use st_source::{Specification, read_specification};
 use st_term::{input_types, typed_term};
@@ -93,10 +93,10 @@ fn ask_term(alloc: Global, question: &Question, term: Row<Value>) -> Result<Answ
     typed_languages_are_searchable();
     meaning_of_rules();
     let algos = lower(alloc, question.il, question.modes)?;
+    let types = &question.decls.types;
+    let language = searched_language(alloc, question.il, types, &algos)?;
     let searching = Searching {
-        il: question.il,
-        types: &question.decls.types,
-        algos: &algos,
+        language: &language,
         relation: question.relation,
         depth: depth_of(question.asked),
     };

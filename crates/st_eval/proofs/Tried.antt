@@ -1,12 +1,12 @@
 -- A clause that is tried: its arguments, its premises one after another, and what it makes of a call.
 use Rattle.std.proofs.Common.{◌≡◌, ℕ, zero, suc, ◌+◌, ◌<◌, ◌≤◌, refl, sym, ◌∙◌, ap, subst, List, [], ◌∷◌, ◌++◌, length, take, drop, get_or, inl, inr, Bool, true, false, if◌then◌else◌, Option, Some, None, bytes_eq, append-nil, arith, All}
 use Rattle.std.specs.Prelude.{Contains}
+use Rattle.std.specs.Borrow.{Bor}
 use Rattle.std.specs.List.{list_all}
 use Rattle.std.proofs.lemmas.List.{take-append-drop, take_more, take_all, drop_more, drop_all}
+use Rattle.std.proofs.lemmas.List.Elements.{All-cons, All-head, All-tail}
 use Rattle.st_il.specs.declared.definition.ClauseDef.{ClauseDef}
 use Rattle.st_il.specs.declared.definition.Il.{Il}
-use Rattle.st_il.specs.declared.definition.IlDef.{IlDef}
-use Rattle.st_il.specs.declared.definition.IlDef.TheVariants.{Syntax, Var, Relation, Rule, Fun, Clause}
 use Rattle.st_il.specs.declared.definition.Listed.{Listed}
 use Rattle.st_il.specs.declared.definition.SyntaxDef.{SyntaxDef}
 use Rattle.st_il.specs.declared.expression.IlExp.{IlExp}
@@ -16,7 +16,8 @@ use Rattle.st_il.specs.declared.value.Value.{Value}
 use Rattle.st_semantics.specs.declared.outcome.Outcome.{Outcome}
 use Rattle.st_semantics.specs.declared.outcome.Outcome.TheVariants.{NoValue}
 use Rattle.st_il.specs.Names.{Name, has_name}
-use Rattle.st_il.specs.Definitions.{syntaxes, clauses_in, clauses_from}
+use Rattle.st_il.specs.Definitions.{syntaxes, clauses_in, clauses_from, clauses_of}
+use Rattle.st_index.specs.Names.{all_now}
 use Rattle.st_semantics.specs.Environments.{names_of, value_in, type_of, listed_names, AgreeOn, TypedIn, IsSomeTyped}
 use Rattle.st_semantics.specs.Evaluation.{Answers, tasks}
 use Rattle.st_semantics.specs.Variables.{vars, vars_of}
@@ -33,14 +34,13 @@ use Rattle.st_semantics.proofs.PatternParts.{Gives-pattern}
 use Rattle.st_semantics.proofs.Restrict.{restricted, agree_picked}
 use Rattle.st_semantics.proofs.Low.{name_there, listed_there}
 use Rattle.st_match.specs.Matches.{IsMatchOfAll, AreAllMatches}
-use Rattle.st_match.proofs.Tests.{All-parts}
 use Rattle.st_eval.specs.declared.condition.Met.{Met}
 use Rattle.st_eval.specs.declared.condition.Met.TheVariants as met
 use Rattle.st_eval.specs.Steps.{value_at, HasOnly, HoldsWith, IsMetUpTo, IsPassedOver}
 use Rattle.st_eval.specs.Meeting.{IsMet}
 use Rattle.st_eval.specs.CanBeMet.{CanBeMet}
 use Rattle.st_eval.specs.Evaluable.{CanBeTried}
-use Rattle.st_eval.specs.inner.Tried.{AreMetUpTo, IsTried, AreTried}
+use Rattle.st_eval.specs.inner.Tried.{AreMetUpTo, IsTried}
 use Rattle.st_eval.proofs.InByteOrder.{in_byte_order, is_in_order, in_order_value, in_order_names}
 use Rattle.st_eval.proofs.Trying.{clause_binds, bound_next, bound_listed, law_of_arguments, law_of_next, law_of_failure, law_of_deepness, law_of_results}
 use Rattle.st_eval.proofs.Conditions.{same_truth, picked_named, typed_there}
@@ -185,76 +185,52 @@ module _ (il : Il) (n : ℕ) (c : ClauseDef) (first : Env) where
 pub IsTried-chosen : (il : Il) (n : ℕ) (c : ClauseDef) (vs : List Value) (env : Env) (o : Outcome) → CanBeTried il c → ValueAt il n env c.result o → IsMetUpTo il n c vs c.premises env → IsTried il n c vs (Some o)
 IsTried-chosen il n c vs env o can gives up = inl (law_of_results il n c can.runnable vs env o up gives)
 
-clauses_first : (d : IlDef) (ds : List IlDef) → clauses_in (d ∷ ds) ≡ clauses_in (d ∷ []) ++ clauses_in ds
-clauses_first (Syntax x) ds = refl
-clauses_first (Relation x) ds = refl
-clauses_first (Rule x) ds = refl
-clauses_first (Fun x) ds = refl
-clauses_first (Clause x) ds = refl
-clauses_first (Var x t) ds = refl
-
-clauses_from-append : (fun : Name) (cs ds : List ClauseDef) → clauses_from fun (cs ++ ds) ≡ clauses_from fun cs ++ clauses_from fun ds
-clauses_from-append fun [] ds = refl
-clauses_from-append fun (c ∷ cs) ds = at (bytes_eq fun c.fun) (clauses_from-append fun cs ds)
+-- what holds of all clauses holds of those of a function
+from_all : (P : ClauseDef → Type 0) (fun : Name) (cs : List ClauseDef) → All P cs → All P (clauses_from fun cs)
+from_all P fun [] all = all
+from_all P fun (c ∷ cs) all = at (bytes_eq fun c.fun) (from_all P fun cs (All-tail P c cs all))
   where
-    at : (b : Bool) → clauses_from fun (cs ++ ds) ≡ clauses_from fun cs ++ clauses_from fun ds
-        → (if b then c ∷ clauses_from fun (cs ++ ds) else clauses_from fun (cs ++ ds)) ≡ (if b then c ∷ clauses_from fun cs else clauses_from fun cs) ++ clauses_from fun ds
-    at true ih = ap (λ z. c ∷ z) ih
-    at false ih = ih
+    at : (b : Bool) → All P (clauses_from fun cs) → All P (if b then c ∷ clauses_from fun cs else clauses_from fun cs)
+    at true rest = All-cons P c (clauses_from fun cs) (All-head P c cs all) rest
+    at false rest = rest
 
--- a definition among others, where a fact holds of all clauses
-clauses_at : (P : ClauseDef → Type 0) (ds : List IlDef) (i : ℕ) (d : IlDef) → i < length ds → d ≡ get_or ds i d → All P (clauses_in ds) → All P (clauses_in (d ∷ []))
-clauses_at P [] i d less is all = absurd (omega (arith, less))
-clauses_at P (x ∷ ds) zero d less is all = subst (λ z. All P (clauses_in (z ∷ []))) (sym is) (All-parts P (clauses_in (x ∷ [])) (clauses_in ds) (subst (All P) (clauses_first x ds) all)).0
-clauses_at P (x ∷ ds) (suc i) d less is all = clauses_at P ds i d (omega (arith, less)) is (All-parts P (clauses_in (x ∷ [])) (clauses_in ds) (subst (All P) (clauses_first x ds) all)).1
+-- one that is referred to, and those behind it
+now_here : (xs : List (Bor ClauseDef)) (i : ℕ) (x : Bor ClauseDef) → i < length xs → x ≡ get_or xs i x → all_now (drop i xs) ≡ x.now ∷ all_now (drop (i + 1) xs)
+now_here [] i x h is = absurd (omega (arith, h))
+now_here (y ∷ ys) zero x h is = ap (λ z. z.now ∷ all_now ys) (sym is)
+now_here (y ∷ ys) (suc i) x h is = now_here ys i x (omega (arith, h)) is
+
+now_can : (P : ClauseDef → Type 0) (xs : List (Bor ClauseDef)) (i : ℕ) (x : Bor ClauseDef) → i < length xs → x ≡ get_or xs i x → All P (all_now xs) → P x.now
+now_can P [] i x h is all = absurd (omega (arith, h))
+now_can P (y ∷ ys) zero x h is all = subst (λ z. P z.now) (sym is) (All-head P y.now (all_now ys) all)
+now_can P (y ∷ ys) (suc i) x h is all = now_can P ys i x (omega (arith, h)) is (All-tail P y.now (all_now ys) all)
 
 module _ (il : Il) (n : ℕ) (vs : List Value) where
-  -- no clause
-  pub AreTried-none : (cs : List ClauseDef) → cs ≡ [] → AreTried il n cs vs None
-  AreTried-none cs is = subst (λ z. AreTried il n z vs None) (sym is) (λ rest o d. d)
+  -- a clause that is passed over leaves the call to those behind it, and one that is not decides it
+  passed_decides : (c : ClauseDef) (cs : List ClauseDef) (o : Outcome) → IsTried il n c vs None → Decides il (CallAt il n) cs vs o → Decides il (CallAt il n) (c ∷ cs) vs o
+  passed_decides c cs o t d = inr (inr (t.0, t.1, d))
 
-  one_tried : (c : ClauseDef) (o : Outcome) → IsTried il n c vs (Some o) → AreTried il n (c ∷ []) vs (Some o)
-  one_tried c o (inl w) rest = inl w
-  one_tried c o (inr w) rest = inr (inl w)
+  tried_decides : (c : ClauseDef) (cs : List ClauseDef) (o : Outcome) → IsTried il n c vs (Some o) → Decides il (CallAt il n) (c ∷ cs) vs o
+  tried_decides c cs o (inl w) = inl w
+  tried_decides c cs o (inr w) = inr (inl w)
 
-  -- one clause
-  pub AreTried-one : (c : ClauseDef) (r : Option Outcome) → IsTried il n c vs r → AreTried il n (c ∷ []) vs r
-  AreTried-one c None t = λ rest o d. inr (inr (t.0, t.1, d))
-  AreTried-one c (Some o) t = one_tried c o t
-
-  -- a definition that is no clause of the function, and one that is
-  pub other_fun : (fun : Name) (c : ClauseDef) → bytes_eq fun c.fun ≡ false → clauses_from fun (c ∷ []) ≡ []
-  other_fun fun c is = ap (λ z. if z then c ∷ [] else []) is
-
-  pub this_fun : (fun : Name) (c : ClauseDef) → bytes_eq fun c.fun ≡ true → clauses_from fun (c ∷ []) ≡ c ∷ []
-  this_fun fun c is = ap (λ z. if z then c ∷ [] else []) is
-
-  module _ (fun : Name) (ds : List IlDef) (i : ℕ) where
-    -- where the definitions that are left decide a call, all do
+  module _ (xs : List (Bor ClauseDef)) (i : ℕ) where
+    -- where the clauses that are left decide a call, all do
     abbrev pub LeadsFrom : Type 0
-    LeadsFrom = (o : Outcome) → Decides il (CallAt il n) (clauses_from fun (clauses_in (drop i ds))) vs o → Decides il (CallAt il n) (clauses_from fun (clauses_in ds)) vs o
+    LeadsFrom = (o : Outcome) → Decides il (CallAt il n) (all_now (drop i xs)) vs o → Decides il (CallAt il n) (all_now xs) vs o
 
-    module _ (items : List IlDef) (items_are : items ≡ ds) (d : IlDef) (there : i < length items) (at : d ≡ get_or items i d) where
-      definition_there : i < length ds
-      definition_there = subst (λ z. i < length z) items_are there
+    module _ (x : Bor ClauseDef) (there : i < length xs) (at : x ≡ get_or xs i x) where
+      pub clause-can : (fun : Name) → all_now xs ≡ clauses_of il fun → All (CanBeTried il) (clauses_in il.defs) → CanBeTried il x.now
+      clause-can fun are all = now_can (CanBeTried il) xs i x there at (subst (All (CanBeTried il)) (sym are) (from_all (CanBeTried il) fun (clauses_in il.defs) all))
 
-      definition_is : d ≡ get_or ds i d
-      definition_is = subst (λ z. d ≡ get_or z i d) items_are at
+      pub decide-next : (r : Option Outcome) → r ≡ None → LeadsFrom → IsTried il n x.now vs r → (o : Outcome) → Decides il (CallAt il n) (all_now (drop (i + 1) xs)) vs o → Decides il (CallAt il n) (all_now xs) vs o
+      decide-next r none inv t o d =
+          inv o (subst (λ z. Decides il (CallAt il n) z vs o) (sym (now_here xs i x there at)) (passed_decides x.now (all_now (drop (i + 1) xs)) o (subst (IsTried il n x.now vs) none t) d))
 
-      pub clauses-here : (P : ClauseDef → Type 0) → All P (clauses_in ds) → All P (clauses_in (d ∷ []))
-      clauses-here P all = clauses_at P ds i d definition_there definition_is all
+      pub decide-here : (fun : Name) → all_now xs ≡ clauses_of il fun → (r : Option Outcome) (o : Outcome) → r ≡ Some o → LeadsFrom → IsTried il n x.now vs r → Decides il (CallAt il n) (clauses_of il fun) vs o
+      decide-here fun are r o some inv t =
+          subst (λ z. Decides il (CallAt il n) z vs o) are
+          (inv o (subst (λ z. Decides il (CallAt il n) z vs o) (sym (now_here xs i x there at)) (tried_decides x.now (all_now (drop (i + 1) xs)) o (subst (IsTried il n x.now vs) some t))))
 
-      split_here : clauses_from fun (clauses_in (drop i ds)) ≡ clauses_from fun (clauses_in (d ∷ [])) ++ clauses_from fun (clauses_in (drop (i + 1) ds))
-      split_here =
-          ap (λ z. clauses_from fun (clauses_in z)) (drop_more ds i d definition_there ∙ ap (λ z. z ∷ drop (i + 1) ds) (sym definition_is))
-          ∙ (ap (clauses_from fun) (clauses_first d (drop (i + 1) ds)) ∙ clauses_from-append fun (clauses_in (d ∷ [])) (clauses_in (drop (i + 1) ds)))
-
-      pub decide-next : (r : Option Outcome) → r ≡ None → LeadsFrom → AreTried il n (clauses_from fun (clauses_in (d ∷ []))) vs r → (o : Outcome) → Decides il (CallAt il n) (clauses_from fun (clauses_in (drop (i + 1) ds))) vs o
-          → Decides il (CallAt il n) (clauses_from fun (clauses_in ds)) vs o
-      decide-next r none inv t o d' = inv o (subst (λ z. Decides il (CallAt il n) z vs o) (sym split_here) (subst (AreTried il n (clauses_from fun (clauses_in (d ∷ []))) vs) none t (clauses_from fun (clauses_in (drop (i + 1) ds))) o d'))
-
-      pub decide-here : (r : Option Outcome) (o : Outcome) → r ≡ Some o → LeadsFrom → AreTried il n (clauses_from fun (clauses_in (d ∷ []))) vs r → Decides il (CallAt il n) (clauses_from fun (clauses_in ds)) vs o
-      decide-here r o some inv t = inv o (subst (λ z. Decides il (CallAt il n) z vs o) (sym split_here) (subst (AreTried il n (clauses_from fun (clauses_in (d ∷ []))) vs) some t (clauses_from fun (clauses_in (drop (i + 1) ds)))))
-
-    pub decide-end : (items : List IlDef) → items ≡ ds → length items ≤ i → LeadsFrom → Decides il (CallAt il n) (clauses_from fun (clauses_in ds)) vs NoValue
-    decide-end items items_are end inv = inv NoValue (subst (λ z. Decides il (CallAt il n) (clauses_from fun (clauses_in z)) vs NoValue) (sym (drop_all i ds (subst (λ z. length z ≤ i) items_are end))) refl)
+    pub decide-end : (fun : Name) → all_now xs ≡ clauses_of il fun → length xs ≤ i → LeadsFrom → Decides il (CallAt il n) (clauses_of il fun) vs NoValue
+    decide-end fun are end inv = subst (λ z. Decides il (CallAt il n) z vs NoValue) are (inv NoValue (subst (λ z. Decides il (CallAt il n) (all_now z) vs NoValue) (sym (drop_all i xs end)) refl))

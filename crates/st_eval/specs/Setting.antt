@@ -10,10 +10,10 @@ use Rattle.st_eval.specs.declared.reading.Setting.{Setting}
 
 -- the types are those of the language, whose calls come to one outcome at most
 pub record IsSetting (s : Setting) : Type 0 where
-  pub types_are : s.types.now ≡ syntaxes s.il.now
-  pub single : CallsAreSingle s.il.now
+  pub types_are : s.types.now ≡ syntaxes s.index.now
+  pub single : CallsAreSingle s.index.now
 
 -- what is answered is what calls come to
 pub record AnswersCalls (s : Setting) (A : Name → List Value → Outcome → Type 0) : Type 0 where
   pub answers : (fun : Name) (vs : List Value) (o : Outcome) → A fun vs o
-      → CallAt s.il.now s.depth fun vs o
+      → CallAt s.index.now s.depth fun vs o

@@ -74,11 +74,11 @@ pub fn tested<C: Caller>(
     requires setting { IsSetting setting.now }
     requires callable { C.IsCallable caller.now }
     requires answers { AnswersCalls setting.now (C.answers caller.now) }
-    requires formed { IsFormed (syntaxes setting.now.il.now) exp.now }
+    requires formed { IsFormed (syntaxes setting.now.index.now) exp.now }
     ensures { IfOk result (λ met. (bound : List Name) (p : IlPrem)
         → out-IlPrem p ≡ IlPrem-F.If exp.now → all_known bound (vars exp.now) ≡ true
-        → HasOnly setting.now.il.now variables.now bound env.now
-        → IsMet setting.now.il.now setting.now.depth bound variables.now env.now p met) }
+        → HasOnly setting.now.index.now variables.now bound env.now
+        → IsMet setting.now.index.now setting.now.depth bound variables.now env.now p met) }
 {
     let outcome = value_of(alloc, setting, caller, env, exp)?;
     let met = tested_by(alloc, env, outcome)?;
@@ -105,9 +105,9 @@ fn matched(
 ) -> Result<Met, NoMemory>
     requires setting { IsSetting setting.now }
     requires pattern { is_pattern pattern.now ≡ true }
-    requires formed { IsFormed (syntaxes setting.now.il.now) pattern.now }
+    requires formed { IsFormed (syntaxes setting.now.index.now) pattern.now }
     requires bound { all_known (names_of env.now ++ binds pattern.now) (vars pattern.now) ≡ true }
-    ensures { IfOk result (λ met. IsMatched (syntaxes setting.now.il.now) variables.now
+    ensures { IfOk result (λ met. IsMatched (syntaxes setting.now.index.now) variables.now
         pattern.now value.now env.now met) }
 {
     let found = matches(alloc, setting.types, variables, pattern, value, env)?;
@@ -130,11 +130,11 @@ fn equation<C: Caller>(
     requires setting { IsSetting setting.now }
     requires callable { C.IsCallable caller.now }
     requires answers { AnswersCalls setting.now (C.answers caller.now) }
-    requires side { IsFormed (syntaxes setting.now.il.now) side.now }
+    requires side { IsFormed (syntaxes setting.now.index.now) side.now }
     requires pattern { is_pattern pattern.now ≡ true }
-    requires formed { IsFormed (syntaxes setting.now.il.now) pattern.now }
+    requires formed { IsFormed (syntaxes setting.now.index.now) pattern.now }
     requires bound { all_known (names_of env.now ++ binds pattern.now) (vars pattern.now) ≡ true }
-    ensures { IfOk result (λ met. IsEquated setting.now.il.now setting.now.depth variables.now
+    ensures { IfOk result (λ met. IsEquated setting.now.index.now setting.now.depth variables.now
         env.now side.now pattern.now met) }
 {
     let outcome = value_of(alloc, setting, caller, env, side)?;
@@ -160,13 +160,13 @@ pub fn meet_condition<C: Caller>(
     requires setting { IsSetting setting.now }
     requires callable { C.IsCallable caller.now }
     requires answers { AnswersCalls setting.now (C.answers caller.now) }
-    requires can { (bound : List Name) × HasOnly setting.now.il.now variables.now bound env.now
-        × IsCondition setting.now.il.now bound variables.now exp.now }
+    requires can { (bound : List Name) × HasOnly setting.now.index.now variables.now bound env.now
+        × IsCondition setting.now.index.now bound variables.now exp.now }
     ensures { IfOk result (λ met. (bound : List Name) (p : IlPrem)
         → out-IlPrem p ≡ IlPrem-F.If exp.now
-        → HasOnly setting.now.il.now variables.now bound env.now
-        → IsCondition setting.now.il.now bound variables.now exp.now
-        → IsMet setting.now.il.now setting.now.depth bound variables.now env.now p met) }
+        → HasOnly setting.now.index.now variables.now bound env.now
+        → IsCondition setting.now.index.now bound variables.now exp.now
+        → IsMet setting.now.index.now setting.now.depth bound variables.now env.now p met) }
 {
     let known = names_of(alloc, env)?;
     let bound = is_bound(alloc, exp, known.as_slice())?;

@@ -69,9 +69,9 @@ fn value_known<'a, C: Caller>(
     requires setting { IsSetting setting.now }
     requires callable { C.IsCallable caller.now }
     requires answers { AnswersCalls setting.now (C.answers caller.now) }
-    requires formed { IsFormed (syntaxes setting.now.il.now) exp.now }
+    requires formed { IsFormed (syntaxes setting.now.index.now) exp.now }
     ensures { IfOk result (λ outcomes.
-        GivesAll (syntaxes setting.now.il.now) (CallAt setting.now.il.now setting.now.depth)
+        GivesAll (syntaxes setting.now.index.now) (CallAt setting.now.index.now setting.now.depth)
         (tasks (scope_env scope.now) (bound_one (names_now known.now) exp.now)) outcomes) }
 {
     let bound = is_bound(alloc, exp, known)?;
@@ -96,9 +96,9 @@ pub fn count_values<'a, C: Caller>(
     requires setting { IsSetting setting.now }
     requires callable { C.IsCallable caller.now }
     requires answers { AnswersCalls setting.now (C.answers caller.now) }
-    requires formed { AreFormed (syntaxes setting.now.il.now) (count_of how.now) }
+    requires formed { AreFormed (syntaxes setting.now.index.now) (count_of how.now) }
     ensures { IfOk result (λ outcomes.
-        GivesAll (syntaxes setting.now.il.now) (CallAt setting.now.il.now setting.now.depth)
+        GivesAll (syntaxes setting.now.index.now) (CallAt setting.now.index.now setting.now.depth)
         (tasks (scope_env scope.now) (bound_count (names_now known.now) how.now)) outcomes) }
 {
     match count_exp(how) {

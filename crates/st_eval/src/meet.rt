@@ -53,13 +53,13 @@ fn met_condition<C: Caller>(
     requires callable { C.IsCallable caller.now }
     requires answers { AnswersCalls setting.now (C.answers caller.now) }
     requires can { (bound : List Name)
-        × HasOnly setting.now.il.now variables.now bound (scope_env scope.now)
-        × IsCondition setting.now.il.now bound variables.now exp.now }
+        × HasOnly setting.now.index.now variables.now bound (scope_env scope.now)
+        × IsCondition setting.now.index.now bound variables.now exp.now }
     ensures { IfOk result (λ met. (bound : List Name) (p : IlPrem)
         → out-IlPrem p ≡ IlPrem-F.If exp.now
-        → HasOnly setting.now.il.now variables.now bound (scope_env scope.now)
-        → IsCondition setting.now.il.now bound variables.now exp.now
-        → IsMet setting.now.il.now setting.now.depth bound variables.now (scope_env scope.now) p
+        → HasOnly setting.now.index.now variables.now bound (scope_env scope.now)
+        → IsCondition setting.now.index.now bound variables.now exp.now
+        → IsMet setting.now.index.now setting.now.depth bound variables.now (scope_env scope.now) p
         (met_beside (scope_env scope.now) met)) }
 {
     let env = bound_in(alloc, exp, scope)?;
@@ -125,12 +125,12 @@ fn met_in<'a, C: Caller>(
     requires callable { C.IsCallable caller.now }
     requires answers { AnswersCalls setting.now (C.answers caller.now) }
     requires can { (bound : List Name)
-        × HasOnly setting.now.il.now variables.now bound (scope_env scope.now)
-        × CanBeMet setting.now.il.now bound variables.now premise.now }
+        × HasOnly setting.now.index.now variables.now bound (scope_env scope.now)
+        × CanBeMet setting.now.index.now bound variables.now premise.now }
     ensures { IfOk result (λ met. (bound : List Name)
-        → HasOnly setting.now.il.now variables.now bound (scope_env scope.now)
-        → CanBeMet setting.now.il.now bound variables.now premise.now
-        → IsMet setting.now.il.now setting.now.depth bound variables.now (scope_env scope.now)
+        → HasOnly setting.now.index.now variables.now bound (scope_env scope.now)
+        → CanBeMet setting.now.index.now bound variables.now premise.now
+        → IsMet setting.now.index.now setting.now.depth bound variables.now (scope_env scope.now)
         premise.now (met_beside (scope_env scope.now) met)) }
 {
     match premise {
@@ -176,12 +176,12 @@ fn met_each<'a, C: Caller>(
     requires callable { C.IsCallable caller.now }
     requires answers { AnswersCalls setting.now (C.answers caller.now) }
     requires can { (bound : List Name) × (p : IlPrem)
-        × HasOnly setting.now.il.now variables.now bound (scope_env scope.now)
-        × CanMeetEach setting.now.il.now bound variables.now p how.now names.now body.now }
+        × HasOnly setting.now.index.now variables.now bound (scope_env scope.now)
+        × CanMeetEach setting.now.index.now bound variables.now p how.now names.now body.now }
     ensures { IfOk result (λ met. (bound : List Name) (p : IlPrem)
-        → HasOnly setting.now.il.now variables.now bound (scope_env scope.now)
-        → CanMeetEach setting.now.il.now bound variables.now p how.now names.now body.now
-        → IsMet setting.now.il.now setting.now.depth bound variables.now (scope_env scope.now) p
+        → HasOnly setting.now.index.now variables.now bound (scope_env scope.now)
+        → CanMeetEach setting.now.index.now bound variables.now p how.now names.now body.now
+        → IsMet setting.now.index.now setting.now.depth bound variables.now (scope_env scope.now) p
         (met_beside (scope_env scope.now) met)) }
 {
     let known = bound_names(alloc, scope)?;
@@ -235,17 +235,17 @@ fn at_elements<'a, C: Caller>(
     requires callable { C.IsCallable caller.now }
     requires answers { AnswersCalls setting.now (C.answers caller.now) }
     requires can { (bound : List Name)
-        × (size < 2 ^ 128 → AllHaveOnly setting.now.il.now variables.now bound
+        × (size < 2 ^ 128 → AllHaveOnly setting.now.index.now variables.now bound
         (rows (index_of how.now) (names_now names.now) (entries_of scope.now) size 0
         (columns_now columns.now)))
-        × CanBeMet setting.now.il.now bound variables.now body.now }
+        × CanBeMet setting.now.index.now bound variables.now body.now }
     ensures small { IfOk result (λ reached. size < 2 ^ 128) }
     ensures met { IfOk result (λ reached. (bound : List Name)
-        → (size < 2 ^ 128 → AllHaveOnly setting.now.il.now variables.now bound
+        → (size < 2 ^ 128 → AllHaveOnly setting.now.index.now variables.now bound
         (rows (index_of how.now) (names_now names.now) (entries_of scope.now) size 0
         (columns_now columns.now)))
-        → CanBeMet setting.now.il.now bound variables.now body.now
-        → AreMet setting.now.il.now setting.now.depth bound variables.now body.now
+        → CanBeMet setting.now.index.now bound variables.now body.now
+        → AreMet setting.now.index.now setting.now.depth bound variables.now body.now
         (rows (index_of how.now) (names_now names.now) (entries_of scope.now) size 0
         (columns_now columns.now)) reached) }
 {
@@ -294,12 +294,12 @@ pub(crate) fn meet<C: Caller>(
     requires callable { C.IsCallable caller.now }
     requires answers { AnswersCalls setting.now (C.answers caller.now) }
     requires can { (bound : List Name)
-        × HasOnly setting.now.il.now variables.now bound env.now
-        × CanBeMet setting.now.il.now bound variables.now premise.now }
+        × HasOnly setting.now.index.now variables.now bound env.now
+        × CanBeMet setting.now.index.now bound variables.now premise.now }
     ensures { IfOk result (λ met. (bound : List Name)
-        → HasOnly setting.now.il.now variables.now bound env.now
-        → CanBeMet setting.now.il.now bound variables.now premise.now
-        → IsMet setting.now.il.now setting.now.depth bound variables.now env.now premise.now
+        → HasOnly setting.now.index.now variables.now bound env.now
+        → CanBeMet setting.now.index.now bound variables.now premise.now
+        → IsMet setting.now.index.now setting.now.depth bound variables.now env.now premise.now
         met) }
 {
     let scope = scope_of(alloc, env)?;

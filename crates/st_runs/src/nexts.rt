@@ -58,9 +58,9 @@ fn listed(alloc: Global, found: &[Output]) -> Result<Answer, NoMemory>
 /// All that a relation derives from a term.
 pub fn next(alloc: Global, searching: &Searching, term: &[Value]) -> Result<Answer, NoMemory>
     requires can { CanSearch searching.now }
-    requires typed { GivesTyped searching.now.il.now searching.now.relation.now }
-    requires term { AreInputs searching.now.il.now searching.now.relation.now term.now }
-    ensures { IfOk result (λ answer. NextSays searching.now.il.now searching.now.relation.now
+    requires typed { GivesTyped searching.now.language.now searching.now.relation.now }
+    requires term { AreInputs searching.now.language.now searching.now.relation.now term.now }
+    ensures { IfOk result (λ answer. NextSays searching.now.language.now searching.now.relation.now
         searching.now.depth term.now answer.status answer.bytes.items) }
 {
     meaning_of_rules();

@@ -77,9 +77,9 @@ pub fn run(
     start: Row<Value>,
 ) -> Result<Answer, NoMemory>
     requires can { CanSearch searching.now }
-    requires leads { LeadsOn searching.now.il.now searching.now.relation.now }
-    requires start { AreInputs searching.now.il.now searching.now.relation.now start }
-    ensures { IfOk result (λ answer. RunSays searching.now.il.now searching.now.relation.now fuel
+    requires leads { LeadsOn searching.now.language.now searching.now.relation.now }
+    requires start { AreInputs searching.now.language.now searching.now.relation.now start }
+    ensures { IfOk result (λ answer. RunSays searching.now.language.now searching.now.relation.now fuel
         searching.now.depth start answer.status answer.bytes.items) }
 {
     let mut bytes = Vec::new(alloc);

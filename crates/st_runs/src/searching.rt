@@ -6,20 +6,16 @@ ghost use Rattle.st_search.specs.declared.answer.Output.{Output as Found};
 ghost use Rattle.st_semantics.specs.Goals.{AreInputs};
 ghost use Rattle.st_runs.specs.inner.Searching.{CanSearch, SearchesTo, StepsTo};
 
-use st_algo::Algos;
-use st_il::{Il, Value, copy_values};
+use st_il::{Value, copy_values};
 use st_num::{Name, NoMemory, Row};
-use st_search::{Chain, Output, Outputs, SearchFault, outputs};
+use st_search::{Chain, Output, Outputs, SearchFault, SearchedLanguage, outputs_in};
 use st_semantics::meaning_of_rules;
-use st_types::TypeTable;
 use std::alloc::Global;
 
-/// A relation of a language, with the algorithms of its rules, and the depth to which it is searched.
+/// A relation of a language that is known, and the depth to which it is searched.
 #[derive(Clone, Copy)]
 pub struct Searching<'a> {
-    pub il: &'a Il,
-    pub types: &'a TypeTable,
-    pub algos: &'a Algos,
+    pub language: &'a SearchedLanguage<'a>,
     pub relation: &'a Name,
     pub depth: u32,
 }
@@ -47,15 +43,13 @@ pub enum Step {
 /// What the relation derives from a term, or a chain that begins there.
 pub fn search(alloc: Global, searching: &Searching, term: &[Value]) -> Result<Searched, NoMemory>
     requires can { CanSearch searching.now }
-    requires term { AreInputs searching.now.il.now searching.now.relation.now term.now }
-    ensures { IfOk result (SearchesTo searching.now.il.now searching.now.relation.now
+    requires term { AreInputs searching.now.language.now searching.now.relation.now term.now }
+    ensures { IfOk result (SearchesTo searching.now.language.now searching.now.relation.now
         searching.now.depth term.now) }
 {
-    let found = outputs(
+    let found = outputs_in(
         alloc,
-        searching.il,
-        searching.types,
-        searching.algos,
+        searching.language,
         searching.relation,
         term,
         searching.depth,
@@ -74,9 +68,9 @@ fn least_of(
     term: &[Value],
     found: &[Output],
 ) -> Result<Step, NoMemory>
-    requires found { SearchesTo searching.now.il.now searching.now.relation.now
+    requires found { SearchesTo searching.now.language.now searching.now.relation.now
         searching.now.depth term.now (Searched.Outputs (record { found = found.now })) }
-    ensures { IfOk result (StepsTo searching.now.il.now searching.now.relation.now
+    ensures { IfOk result (StepsTo searching.now.language.now searching.now.relation.now
         searching.now.depth term.now) }
 {
     meaning_of_rules();
@@ -89,8 +83,8 @@ fn least_of(
 /// Where a run goes from a term: to the least that is derivable.
 pub fn next_step(alloc: Global, searching: &Searching, term: &[Value]) -> Result<Step, NoMemory>
     requires can { CanSearch searching.now }
-    requires term { AreInputs searching.now.il.now searching.now.relation.now term.now }
-    ensures { IfOk result (StepsTo searching.now.il.now searching.now.relation.now
+    requires term { AreInputs searching.now.language.now searching.now.relation.now term.now }
+    ensures { IfOk result (StepsTo searching.now.language.now searching.now.relation.now
         searching.now.depth term.now) }
 {
     match search(alloc, searching, term)? {

@@ -1,8 +1,5 @@
 -- What the rule of a number finds: in its order, or nothing where it has none; and relations and rules by their numbers.
-use Rattle.std.proofs.Common.{arith, ◌≡◌, refl, sym, ◌∙◌, ap, subst, ℕ, zero, suc, ◌<◌, ◌≤◌, ◌^◌, Bool, true, false, if◌then◌else◌, List, [], ◌∷◌, length, take, get_or, Some, None, Ok, slice_get, bytes_eq, All, inl}
-use Rattle.std.specs.Borrow.{Bor}
-use Rattle.std.specs.Prelude.{find}
-use Rattle.std.proofs.lemmas.List.Elements.{All-head, All-tail}
+use Rattle.std.proofs.Common.{arith, ◌≡◌, refl, sym, ◌∙◌, ap, subst, ℕ, ◌<◌, ◌≤◌, ◌^◌, Bool, true, false, if◌then◌else◌, List, [], ◌∷◌, length, Some, None, Ok, slice_get, bytes_eq, All, inl}
 use Rattle.std.proofs.lemmas.Option.{slice_get_within}
 use Rattle.st_il.specs.declared.definition.Il.{Il}
 use Rattle.st_il.specs.declared.definition.IlDef.{IlDef}
@@ -17,14 +14,13 @@ use Rattle.st_semantics.specs.Derivation.{Derivable}
 use Rattle.st_semantics.specs.Directions.{direction}
 use Rattle.st_semantics.specs.OrderOf.{order_of}
 use Rattle.st_semantics.specs.Goals.{Goal}
-use Rattle.st_semantics.proofs.Names.{bytes-path}
-use Rattle.st_order.specs.Known.{all_now}
+use Rattle.st_index.specs.Numbers.{IsFirstRelation}
 use Rattle.st_order.specs.Modes.{HasFew}
 use Rattle.st_algo.specs.declared.algorithm.Algorithm.{Algorithm}
 use Rattle.st_algo.specs.declared.algorithm.Algos.{Algos}
 use Rattle.st_search.specs.declared.answer.Output.{Output}
 use Rattle.st_search.specs.Searchable.{CanBeRun, IsSearchable}
-use Rattle.st_search.specs.inner.Rules.{CanBeSearched, IsFirstRelation, IsRuledBy, algorithm_at, rule_seeks, numbered_seeks}
+use Rattle.st_search.specs.inner.Rules.{CanBeSearched, IsRuledBy, algorithm_at, rule_seeks, numbered_seeks}
 use Rattle.st_search.specs.inner.Running.{IsRuleOf}
 use Rattle.st_search.specs.inner.Sought.{Finds}
 use Rattle.st_search.proofs.Derived.{derives_all}
@@ -78,48 +74,13 @@ rule_small il name k r few is =
 
 -- ---- the first relation of a name
 
-pub first_found : (name : Name) (xs : List (Bor RelationDef)) (i : ℕ) (x : Bor RelationDef) → i < length xs → x ≡ get_or xs i x → All (λ (r : RelationDef). bytes_eq name r.name ≡ false) (all_now (take i xs)) → bytes_eq name x.now.name ≡ true
-    → find (λ (r : RelationDef). bytes_eq name r.name) (all_now xs) ≡ Some x.now
-first_found name [] i x h is none same = absurd (omega (arith, h))
-first_found name (y ∷ ys) zero x h is none same =
-    let equal : y ≡ x = sym is in
-    ap (λ (b : Bool). if b then Some y.now else find (λ (r : RelationDef). bytes_eq name r.name) (all_now ys)) (ap (λ (z : Bor RelationDef). bytes_eq name z.now.name) equal ∙ same) ∙ ap (λ (z : Bor RelationDef). Some z.now) equal
-first_found name (y ∷ ys) (suc i) x h is none same =
-    let other = All-head (λ (r : RelationDef). bytes_eq name r.name ≡ false) y.now (all_now (take i ys)) none in
-    let rest = All-tail (λ (r : RelationDef). bytes_eq name r.name ≡ false) y.now (all_now (take i ys)) none in
-    ap (λ (b : Bool). if b then Some y.now else find (λ (r : RelationDef). bytes_eq name r.name) (all_now ys)) other ∙ first_found name ys i x (omega (arith, h)) is rest same
-
-found_name : (name : Name) (rs : List RelationDef) (d : RelationDef) → find (λ (r : RelationDef). bytes_eq name r.name) rs ≡ Some d → d.name ≡ name
-found_name name [] d e = cc
-found_name name (r ∷ rs) d e = at (bytes_eq name r.name) refl e (found_name name rs d)
-  where
-    at : (b : Bool) → bytes_eq name r.name ≡ b → (if b then Some r else find (λ (r : RelationDef). bytes_eq name r.name) rs) ≡ Some d → (find (λ (r : RelationDef). bytes_eq name r.name) rs ≡ Some d → d.name ≡ name) → d.name ≡ name
-    at true k e later = let same : r ≡ d = cc in ap (λ (z : RelationDef). z.name) (sym same) ∙ sym (bytes-path name r.name k)
-    at false k e later = later e
-
--- the number that is found among all relations
-pub first_relation : (il : Il) (rs : List RelationDef) (k : ℕ) (name : Name) → rs ≡ relations il → ((r : RelationDef) × (slice_get rs k ≡ Some r) × (find (λ (r : RelationDef). bytes_eq name r.name) rs ≡ Some r)) → IsFirstRelation il k name
-first_relation il rs k name are (r, is, found) = record {
-  declared = r;
-  is = subst (λ z. slice_get z k ≡ Some r) are is;
-  found = subst (λ z. find (λ (r : RelationDef). bytes_eq name r.name) z ≡ Some r) are found;
-  named = found_name name rs r found;
-}
-
 pub first_is : (il : Il) (k : ℕ) (name : Name) → IsFirstRelation il k name → IsRelation il k name
 first_is il k name f = (f.declared, f.is, f.named)
 
-not_found : (name : Name) (rs : List RelationDef) → All (λ (r : RelationDef). bytes_eq name r.name ≡ false) rs → find (λ (r : RelationDef). bytes_eq name r.name) rs ≡ None
-not_found name [] none = refl
-not_found name (r ∷ rs) none =
-    ap (λ (b : Bool). if b then Some r else find (λ (r : RelationDef). bytes_eq name r.name) rs) (All-head (λ (r : RelationDef). bytes_eq name r.name ≡ false) r rs none)
-    ∙ not_found name rs (All-tail (λ (r : RelationDef). bytes_eq name r.name ≡ false) r rs none)
-
 -- a relation that is not declared cannot be searched
-pub undeclared : (il : Il) (rs : List RelationDef) (name : Name) → rs ≡ relations il → All (λ (r : RelationDef). bytes_eq name r.name ≡ false) rs → CanBeSearched il name → ⊥
-undeclared il rs name are none can =
+pub undeclared : (il : Il) (name : Name) → relation_named il name ≡ None → CanBeSearched il name → ⊥
+undeclared il name missing can =
     let ready = can name (inl refl) in
-    let missing : relation_named il name ≡ None = subst (λ z. find (λ (r : RelationDef). bytes_eq name r.name) z ≡ None) are (not_found name rs none) in
     let bad : None ≡ Some ready.declared = sym missing ∙ ready.found in cc
 
 -- ---- a rule in its order

@@ -1,9 +1,6 @@
 -- The rules of a relation that are run, one after another.
-use Rattle.std.proofs.Common.{arith, ◌≡◌, sym, ◌∙◌, ap, subst, ℕ, zero, suc, ◌+◌, ◌<◌, ◌≤◌, List, [], ◌∷◌, ◌++◌, length, take, get_or, Some, slice_get, ◌⊎◌}
-use Rattle.std.specs.Prelude.{All}
+use Rattle.std.proofs.Common.{arith, ◌≡◌, sym, ◌∙◌, ap, subst, ℕ, zero, suc, ◌+◌, ◌<◌, ◌≤◌, List, [], ◌∷◌, length, take, get_or, Some, slice_get, ◌⊎◌}
 use Rattle.std.specs.Borrow.{Bor}
-use Rattle.std.proofs.lemmas.List.{map-append}
-use Rattle.std.proofs.lemmas.List.Elements.{All-push}
 use Rattle.st_il.specs.declared.definition.Il.{Il}
 use Rattle.st_il.specs.declared.definition.RelationDef.{RelationDef}
 use Rattle.st_il.specs.declared.definition.RuleDef.{RuleDef}
@@ -13,18 +10,18 @@ use Rattle.st_il.specs.Definitions.{IsRelation, rules_of}
 use Rattle.st_semantics.specs.Derivation.{Derivable}
 use Rattle.st_semantics.specs.Goals.{Goal}
 use Rattle.st_semantics.specs.Chains.{Follows}
-use Rattle.st_order.specs.Known.{all_now}
+use Rattle.st_index.specs.Names.{all_now}
+use Rattle.st_index.specs.Numbers.{IsFirstRelation}
 use Rattle.st_search.specs.declared.answer.Output.{Output}
 use Rattle.st_search.specs.declared.answer.SearchFault.{SearchFault}
 use Rattle.st_search.specs.Answers.{AreSorted}
 use Rattle.st_search.specs.inner.Chains.{EndsBehind}
 use Rattle.st_search.specs.inner.Contracts.{IsShort}
 use Rattle.st_search.specs.inner.Ordered.{AreAdded}
-use Rattle.st_search.specs.inner.Rules.{CanBeSearched, IsFirstRelation, numbered_seeks, goal_seeks}
+use Rattle.st_search.specs.inner.Rules.{CanBeSearched, numbered_seeks, goal_seeks}
 use Rattle.st_search.specs.inner.Search.{Solvings, AnswersGoals}
 use Rattle.st_search.specs.inner.Sought.{Finds}
 use Rattle.st_search.proofs.FromRules.{rules_seek, rules_start, rules_step, goal_finds}
-use Rattle.st_search.proofs.Sequences.{take_step, take_whole}
 use Rattle.st_search.proofs.Solved.{short_none, short_greater}
 
 -- ---- what is referred to at a number
@@ -39,25 +36,10 @@ now_at [] i x h is = absurd (omega (arith, h))
 now_at (y ∷ ys) zero x h is = ap (λ z. z.now) is
 now_at (y ∷ ys) (suc i) x h is = now_at ys i x (omega (arith, h)) is
 
-pub now_get : {A : Type 0} (xs : List (Bor A)) (i : ℕ) (x : Bor A) → i < length xs → x ≡ get_or xs i x → slice_get (all_now xs) i ≡ Some x.now
-now_get [] i x h is = absurd (omega (arith, h))
-now_get (y ∷ ys) zero x h is = ap (λ z. Some z.now) (sym is)
-now_get (y ∷ ys) (suc i) x h is = now_get ys i x (omega (arith, h)) is
-
 pub now_end : {A : Type 0} (xs : List (Bor A)) (i : ℕ) → length xs ≤ i → length (all_now xs) ≤ i
 now_end [] i h = h
 now_end (x ∷ xs) zero h = absurd (omega (arith, h))
 now_end (x ∷ xs) (suc i) h = let inner = now_end xs i (omega (arith, h)) in omega (arith, inner)
-
-pub now_step : {A : Type 0} (xs : List (Bor A)) (i : ℕ) (x : Bor A) → i < length xs → x ≡ get_or xs i x → all_now (take (i + 1) xs) ≡ all_now (take i xs) ++ x.now ∷ []
-now_step xs i x h is = ap all_now (take_step xs i x h is) ∙ map-append (λ z. z.now) (take i xs) (x ∷ [])
-
--- what holds of the first of them holds of one more, and of all
-pub now_more : {A : Type 0} (P : A → Type 0) (xs : List (Bor A)) (i : ℕ) (x : Bor A) → i < length xs → x ≡ get_or xs i x → All P (all_now (take i xs)) → P x.now → All P (all_now (take (i + 1) xs))
-now_more P xs i x h is all p = subst (All P) (sym (now_step xs i x h is)) (All-push P (all_now (take i xs)) x.now all p)
-
-pub now_all : {A : Type 0} (P : A → Type 0) (xs : List (Bor A)) (i : ℕ) → length xs ≤ i → All P (all_now (take i xs)) → All P (all_now xs)
-now_all P xs i end all = subst (λ z. All P (all_now z)) (take_whole xs i end) all
 
 -- a number is that of one relation
 pub relation_same : (il : Il) (k : ℕ) (a b : Name) → IsRelation il k a → IsRelation il k b → a ≡ b

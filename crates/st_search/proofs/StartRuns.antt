@@ -37,42 +37,42 @@ AreFittingIf holes inputs r = MatchOption r ((values : List Value) → AreFittin
 
 -- environments in which patterns have values
 abbrev pub AreExtended : Search → List Listed → List IlExp → List Value → List Env → Type 0
-AreExtended s ls patterns values envs = (few : Env) × (few.entries ≡ entries_among no_variables (vars_of patterns)) × AreExtensions (syntaxes s.setting.il.now) ls patterns values few envs
+AreExtended s ls patterns values envs = (few : Env) × (few.entries ≡ entries_among no_variables (vars_of patterns)) × AreExtensions (syntaxes s.setting.index.now) ls patterns values few envs
 
-module _ (s : Search) (known : IsSearch s) (rule : RuleDef) (can : CanBeRun s.setting.il.now rule) (ins : List IlExp) (ins_are : ins ≡ inputs_of_rule s.setting.il.now rule) where
-  pub ins_formed : AreFormed (syntaxes s.setting.il.now) ins
-  ins_formed = subst (AreFormed (syntaxes s.setting.il.now)) (sym ins_are) (inputs_formed s.setting.il.now rule can)
+module _ (s : Search) (known : IsSearch s) (rule : RuleDef) (can : CanBeRun s.setting.index.now rule) (ins : List IlExp) (ins_are : ins ≡ inputs_of_rule s.setting.index.now rule) where
+  pub ins_formed : AreFormed (syntaxes s.setting.index.now) ins
+  ins_formed = subst (AreFormed (syntaxes s.setting.index.now)) (sym ins_are) (inputs_formed s.setting.index.now rule can)
 
   -- none of the inputs that are evaluated is Deep
-  pub closed_quiet : (holes : List Hole) → AreHoles s.setting.il.now s.setting.depth no_variables Closed ins holes → HasDeepHole s.setting.il.now s.setting.depth no_variables Closed ins → ⊥
-  closed_quiet holes are = holes_not_deep s.setting.il.now known.searchable.evaluable.single s.setting.depth Closed no_variables ins holes are
+  pub closed_quiet : (holes : List Hole) → AreHoles s.setting.index.now s.setting.depth no_variables Closed ins holes → HasDeepHole s.setting.index.now s.setting.depth no_variables Closed ins → ⊥
+  closed_quiet holes are = holes_not_deep s.setting.index.now known.searchable.evaluable.single s.setting.depth Closed no_variables ins holes are
 
-  module _ (ordered : (order : List ℕ) × (order_of s.setting.il.now rule ≡ Ok order)) where
+  module _ (ordered : (order : List ℕ) × (order_of s.setting.index.now rule ≡ Ok order)) where
     module _ (patterns : List IlExp) (patterns_are : patterns ≡ matched_of Closed ins) where
-      back : matched_of Closed (inputs_of_rule s.setting.il.now rule) ≡ patterns
+      back : matched_of Closed (inputs_of_rule s.setting.index.now rule) ≡ patterns
       back = sym (patterns_are ∙ ap (matched_of Closed) ins_are)
 
       pub patterns_all : list_all is_pattern patterns ≡ true
-      patterns_all = subst (λ z. list_all is_pattern z ≡ true) back (matched_patterns s.setting.il.now rule can ordered.0 ordered.1)
+      patterns_all = subst (λ z. list_all is_pattern z ≡ true) back (matched_patterns s.setting.index.now rule can ordered.0 ordered.1)
 
-      pub patterns_formed : AreFormed (syntaxes s.setting.il.now) patterns
-      patterns_formed = subst (AreFormed (syntaxes s.setting.il.now)) back (matched_formed s.setting.il.now rule can)
+      pub patterns_formed : AreFormed (syntaxes s.setting.index.now) patterns
+      patterns_formed = subst (AreFormed (syntaxes s.setting.index.now)) back (matched_formed s.setting.index.now rule can)
 
       pub patterns_bound : all_known (names_of no_variables ++ flattened (map binds patterns)) (vars_of patterns) ≡ true
-      patterns_bound = subst (λ z. all_known (names_of no_variables ++ flattened (map binds z)) (vars_of z) ≡ true) back (matched_bound s.setting.il.now rule can ordered.0 ordered.1)
+      patterns_bound = subst (λ z. all_known (names_of no_variables ++ flattened (map binds z)) (vars_of z) ≡ true) back (matched_bound s.setting.index.now rule can ordered.0 ordered.1)
 
     module _ (inputs : List Value) where
       abbrev pub StartsFound : List Partial → Type 0
-      StartsFound starts = (g : Goal) (number : ℕ) → g.inputs ≡ inputs → Finds s.setting.il.now s.setting.depth 0 (run_seeks s.setting.il.now s.setting.depth g number rule []) starts
+      StartsFound starts = (g : Goal) (number : ℕ) → g.inputs ≡ inputs → Finds s.setting.index.now s.setting.depth 0 (run_seeks s.setting.index.now s.setting.depth g number rule []) starts
 
-      module _ (holes : List Hole) (are : AreHoles s.setting.il.now s.setting.depth no_variables Closed ins holes) where
-        all_are : AreHoles s.setting.il.now s.setting.depth no_variables Closed (inputs_of_rule s.setting.il.now rule) holes
-        all_are = subst (λ z. AreHoles s.setting.il.now s.setting.depth no_variables Closed z holes) ins_are are
+      module _ (holes : List Hole) (are : AreHoles s.setting.index.now s.setting.depth no_variables Closed ins holes) where
+        all_are : AreHoles s.setting.index.now s.setting.depth no_variables Closed (inputs_of_rule s.setting.index.now rule) holes
+        all_are = subst (λ z. AreHoles s.setting.index.now s.setting.depth no_variables Closed z holes) ins_are are
 
         module _ (r : Option (List Value)) (fit : AreFittingIf holes inputs r) where
           pub misfit_finds : r ≡ None → (starts : List Partial) → starts ≡ [] → StartsFound starts
-          misfit_finds is starts none g number same = subst (Finds s.setting.il.now s.setting.depth 0 (run_seeks s.setting.il.now s.setting.depth g number rule [])) (sym none)
-              (starts_found s.setting.il.now s.setting.depth g number rule [] tt (λ env reached. absurd (start_misfit s.setting.il.now s.setting.depth g number rule can ordered.0 ordered.1 holes all_are known.searchable.stable known.searchable.evaluable.single
+          misfit_finds is starts none g number same = subst (Finds s.setting.index.now s.setting.depth 0 (run_seeks s.setting.index.now s.setting.depth g number rule [])) (sym none)
+              (starts_found s.setting.index.now s.setting.depth g number rule [] tt (λ env reached. absurd (start_misfit s.setting.index.now s.setting.depth g number rule can ordered.0 ordered.1 holes all_are known.searchable.stable known.searchable.evaluable.single
               (λ values fits. never values (subst (λ z. AreFitting holes z values) same fits)) env reached)))
             where
               never : (values : List Value) → AreFitting holes inputs values → ⊥
@@ -83,7 +83,7 @@ module _ (s : Search) (known : IsSearch s) (rule : RuleDef) (can : CanBeRun s.se
           fit_finds values is patterns patterns_are envs extended starts starts_are g number same =
               let w = subst (λ z. AreExtended s rule.variables z values envs) (sym (back patterns patterns_are)) extended in
               let fitting : AreFitting holes g.inputs values = subst (λ z. AreFitting holes z values) (sym same) (subst (AreFittingIf holes inputs) is fit) in
-              subst (Finds s.setting.il.now s.setting.depth 0 (run_seeks s.setting.il.now s.setting.depth g number rule [])) (sym starts_are)
-              (starts_found s.setting.il.now s.setting.depth g number rule (started envs)
-              (starts_right s.setting.il.now s.setting.depth g number rule can ordered.0 ordered.1 holes all_are values fitting w.0 w.1 envs w.2)
-              (start_wanted s.setting.il.now s.setting.depth g number rule can ordered.0 ordered.1 holes all_are values fitting w.0 w.1 envs w.2 known.searchable.stable known.searchable.evaluable.single))
+              subst (Finds s.setting.index.now s.setting.depth 0 (run_seeks s.setting.index.now s.setting.depth g number rule [])) (sym starts_are)
+              (starts_found s.setting.index.now s.setting.depth g number rule (started envs)
+              (starts_right s.setting.index.now s.setting.depth g number rule can ordered.0 ordered.1 holes all_are values fitting w.0 w.1 envs w.2)
+              (start_wanted s.setting.index.now s.setting.depth g number rule can ordered.0 ordered.1 holes all_are values fitting w.0 w.1 envs w.2 known.searchable.stable known.searchable.evaluable.single))

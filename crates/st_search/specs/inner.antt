@@ -9,6 +9,7 @@ pub mod Walks
 pub mod Trees
 pub mod Rules
 pub mod Search
+pub mod Kept
 pub mod Holes
 pub mod Finding
 pub mod Solutions

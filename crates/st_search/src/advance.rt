@@ -65,32 +65,32 @@ fn run_from<F: Finder>(
     requires search { IsSearch search.now }
     requires callable { F.IsCallable finder.now }
     requires can { (bound : List Name) × (p : IlPrem)
-        × HasOnly search.now.setting.il.now variables.now bound end.now.env
-        × IsRunBy search.now.setting.il.now bound variables.now p step.now }
-    ensures short { IfOk result (λ found. IsShort search.now.setting.il.now
+        × HasOnly search.now.setting.index.now variables.now bound end.now.env
+        × IsRunBy search.now.setting.index.now bound variables.now p step.now }
+    ensures short { IfOk result (λ found. IsShort search.now.setting.index.now
         search.now.setting.depth (F.answers finder.now) found.longest) }
     ensures found { IfOk result (λ found. (left : ℕ) (root : Root) (bound : List Name)
-        (p : IlPrem) → AnswersGoals search.now.setting.il.now search.now.setting.depth left
+        (p : IlPrem) → AnswersGoals search.now.setting.index.now search.now.setting.depth left
         (F.answers finder.now)
-        → HasOnly search.now.setting.il.now variables.now bound end.now.env
-        → IsRunBy search.now.setting.il.now bound variables.now p step.now
-        → IsSearchedIn search.now.setting.il.now p
-        → Finds search.now.setting.il.now search.now.setting.depth found.longest
-        (next_seeks search.now.setting.il.now search.now.setting.depth root bound variables.now p
+        → HasOnly search.now.setting.index.now variables.now bound end.now.env
+        → IsRunBy search.now.setting.index.now bound variables.now p step.now
+        → IsSearchedIn search.now.setting.index.now p
+        → Finds search.now.setting.index.now search.now.setting.depth found.longest
+        (next_seeks search.now.setting.index.now search.now.setting.depth root bound variables.now p
         end.now) found.items) }
     ensures binds { IfOk result (λ found. (bound : List Name) (p : IlPrem)
-        → HasOnly search.now.setting.il.now variables.now bound end.now.env
-        → IsRunBy search.now.setting.il.now bound variables.now p step.now
-        → AllEndWith search.now.setting.il.now variables.now (bound ++ prem_vars p)
+        → HasOnly search.now.setting.index.now variables.now bound end.now.env
+        → IsRunBy search.now.setting.index.now bound variables.now p step.now
+        → AllEndWith search.now.setting.index.now variables.now (bound ++ prem_vars p)
         found.items) }
     ensures stops { IfErr result (λ stop. (left : ℕ) (root : Root) (bound : List Name)
-        (p : IlPrem) → AnswersGoals search.now.setting.il.now search.now.setting.depth left
+        (p : IlPrem) → AnswersGoals search.now.setting.index.now search.now.setting.depth left
         (F.answers finder.now)
-        → HasOnly search.now.setting.il.now variables.now bound end.now.env
-        → IsRunBy search.now.setting.il.now bound variables.now p step.now
-        → IsSearchedIn search.now.setting.il.now p
-        → Stops search.now.setting.il.now search.now.setting.depth left
-        (next_seeks search.now.setting.il.now search.now.setting.depth root bound variables.now p
+        → HasOnly search.now.setting.index.now variables.now bound end.now.env
+        → IsRunBy search.now.setting.index.now bound variables.now p step.now
+        → IsSearchedIn search.now.setting.index.now p
+        → Stops search.now.setting.index.now search.now.setting.depth left
+        (next_seeks search.now.setting.index.now search.now.setting.depth root bound variables.now p
         end.now) stop) }
 {
     let scope = scope_of(alloc, &end.env)?;
@@ -112,32 +112,32 @@ pub(crate) fn run_from_all<F: Finder>(
     requires search { IsSearch search.now }
     requires callable { F.IsCallable finder.now }
     requires can { (bound : List Name) × (p : IlPrem)
-        × AllEndWith search.now.setting.il.now variables.now bound ends.now
-        × IsRunBy search.now.setting.il.now bound variables.now p step.now }
-    ensures short { IfOk result (λ found. IsShort search.now.setting.il.now
+        × AllEndWith search.now.setting.index.now variables.now bound ends.now
+        × IsRunBy search.now.setting.index.now bound variables.now p step.now }
+    ensures short { IfOk result (λ found. IsShort search.now.setting.index.now
         search.now.setting.depth (F.answers finder.now) found.longest) }
     ensures found { IfOk result (λ found. (left : ℕ) (root : Root) (bound : List Name)
-        (p : IlPrem) → AnswersGoals search.now.setting.il.now search.now.setting.depth left
+        (p : IlPrem) → AnswersGoals search.now.setting.index.now search.now.setting.depth left
         (F.answers finder.now)
-        → AllEndWith search.now.setting.il.now variables.now bound ends.now
-        → IsRunBy search.now.setting.il.now bound variables.now p step.now
-        → IsSearchedIn search.now.setting.il.now p
-        → Finds search.now.setting.il.now search.now.setting.depth found.longest
-        (sought_from (next_seeks search.now.setting.il.now search.now.setting.depth root bound
+        → AllEndWith search.now.setting.index.now variables.now bound ends.now
+        → IsRunBy search.now.setting.index.now bound variables.now p step.now
+        → IsSearchedIn search.now.setting.index.now p
+        → Finds search.now.setting.index.now search.now.setting.depth found.longest
+        (sought_from (next_seeks search.now.setting.index.now search.now.setting.depth root bound
         variables.now p) ends.now) found.items) }
     ensures binds { IfOk result (λ found. (bound : List Name) (p : IlPrem)
-        → AllEndWith search.now.setting.il.now variables.now bound ends.now
-        → IsRunBy search.now.setting.il.now bound variables.now p step.now
-        → AllEndWith search.now.setting.il.now variables.now (bound ++ prem_vars p)
+        → AllEndWith search.now.setting.index.now variables.now bound ends.now
+        → IsRunBy search.now.setting.index.now bound variables.now p step.now
+        → AllEndWith search.now.setting.index.now variables.now (bound ++ prem_vars p)
         found.items) }
     ensures stops { IfErr result (λ stop. (left : ℕ) (root : Root) (bound : List Name)
-        (p : IlPrem) → AnswersGoals search.now.setting.il.now search.now.setting.depth left
+        (p : IlPrem) → AnswersGoals search.now.setting.index.now search.now.setting.depth left
         (F.answers finder.now)
-        → AllEndWith search.now.setting.il.now variables.now bound ends.now
-        → IsRunBy search.now.setting.il.now bound variables.now p step.now
-        → IsSearchedIn search.now.setting.il.now p
-        → Stops search.now.setting.il.now search.now.setting.depth left
-        (sought_from (next_seeks search.now.setting.il.now search.now.setting.depth root bound
+        → AllEndWith search.now.setting.index.now variables.now bound ends.now
+        → IsRunBy search.now.setting.index.now bound variables.now p step.now
+        → IsSearchedIn search.now.setting.index.now p
+        → Stops search.now.setting.index.now search.now.setting.depth left
+        (sought_from (next_seeks search.now.setting.index.now search.now.setting.depth root bound
         variables.now p) ends.now) stop) }
 {
     let mut items = Row::new(alloc);

@@ -40,16 +40,16 @@ fn each_value(
     exps: &[IlExp],
 ) -> Result<Option<Row<Value>>, Stop>
     requires search { IsSearch search.now }
-    requires formed { AreFormed (syntaxes search.now.setting.il.now) exps.now }
+    requires formed { AreFormed (syntaxes search.now.setting.index.now) exps.now }
     ensures found { IfOk result (λ found. MatchOption found
-        (SomeGives search.now.setting.il.now search.now.setting.depth env.now exps.now
+        (SomeGives search.now.setting.index.now search.now.setting.depth env.now exps.now
         variant.NoValue)
         (λ values. HaveValues
-        (has_value_at search.now.setting.il.now search.now.setting.depth)
+        (has_value_at search.now.setting.index.now search.now.setting.depth)
         (tasks env.now exps.now) values)) }
-    ensures quiet { OnOk result (SomeGives search.now.setting.il.now search.now.setting.depth
+    ensures quiet { OnOk result (SomeGives search.now.setting.index.now search.now.setting.depth
         env.now exps.now variant.Deep → ⊥) }
-    ensures stops { IfErr result (λ stop. StopsIf (SomeGives search.now.setting.il.now
+    ensures stops { IfErr result (λ stop. StopsIf (SomeGives search.now.setting.index.now
         search.now.setting.depth env.now exps.now variant.Deep) stop) }
 {
     let mut values = Row::new(alloc);
@@ -75,17 +75,17 @@ fn given(
     end: &Partial,
 ) -> Result<Row<Output>, Stop>
     requires search { IsSearch search.now }
-    requires rule { CanBeRun search.now.setting.il.now place.now.rule.now }
+    requires rule { CanBeRun search.now.setting.index.now place.now.rule.now }
     requires outputs { outs.now
-        ≡ outputs_of_rule search.now.setting.il.now place.now.rule.now }
+        ≡ outputs_of_rule search.now.setting.index.now place.now.rule.now }
     ensures found { IfOk result (λ found. (g : Goal) → g.inputs ≡ inputs.now
-        → IsPlace search.now.setting.il.now g.relation place.now
-        → IsPartial search.now.setting.il.now search.now.setting.depth g place.now.number
+        → IsPlace search.now.setting.index.now g.relation place.now
+        → IsPartial search.now.setting.index.now search.now.setting.depth g place.now.number
         place.now.rule.now (in_order place.now.rule.now.premises place.now.order.now) end.now
-        → Finds search.now.setting.il.now search.now.setting.depth 0
-        (end_seeks search.now.setting.il.now search.now.setting.depth g place.now.rule.now
+        → Finds search.now.setting.index.now search.now.setting.depth 0
+        (end_seeks search.now.setting.index.now search.now.setting.depth g place.now.rule.now
         end.now) found) }
-    ensures stops { IfErr result (λ stop. StopsIf (SomeGives search.now.setting.il.now
+    ensures stops { IfErr result (λ stop. StopsIf (SomeGives search.now.setting.index.now
         search.now.setting.depth end.now.env outs.now variant.Deep) stop) }
 {
     let mut found = Row::new(alloc);
@@ -111,19 +111,19 @@ fn all_given(
     ends: &[Partial],
 ) -> Result<Row<Output>, Stop>
     requires search { IsSearch search.now }
-    requires rule { CanBeRun search.now.setting.il.now place.now.rule.now }
+    requires rule { CanBeRun search.now.setting.index.now place.now.rule.now }
     requires outputs { outs.now
-        ≡ outputs_of_rule search.now.setting.il.now place.now.rule.now }
+        ≡ outputs_of_rule search.now.setting.index.now place.now.rule.now }
     ensures found { IfOk result (λ found. (g : Goal) → g.inputs ≡ inputs.now
-        → IsPlace search.now.setting.il.now g.relation place.now
-        → AllByRecursion (IsPartial search.now.setting.il.now search.now.setting.depth g
+        → IsPlace search.now.setting.index.now g.relation place.now
+        → AllByRecursion (IsPartial search.now.setting.index.now search.now.setting.depth g
         place.now.number place.now.rule.now
         (in_order place.now.rule.now.premises place.now.order.now)) ends.now
-        → Finds search.now.setting.il.now search.now.setting.depth 0
-        (sought_from (end_seeks search.now.setting.il.now search.now.setting.depth g
+        → Finds search.now.setting.index.now search.now.setting.depth 0
+        (sought_from (end_seeks search.now.setting.index.now search.now.setting.depth g
         place.now.rule.now) ends.now) found) }
     ensures stops { IfErr result (λ stop. StopsIf (Exists (λ (end : Partial).
-        SomeGives search.now.setting.il.now search.now.setting.depth end.env outs.now
+        SomeGives search.now.setting.index.now search.now.setting.depth end.env outs.now
         variant.Deep) ends.now) stop) }
 {
     let mut found = Row::new(alloc);
@@ -147,22 +147,22 @@ pub(crate) fn concluded(
     ends: &[Partial],
 ) -> Result<Row<Output>, SearchFault>
     requires search { IsSearch search.now }
-    requires rule { CanBeRun search.now.setting.il.now rule.now }
+    requires rule { CanBeRun search.now.setting.index.now rule.now }
     requires few { length rule.now.premises < 2 ^ 32 }
-    requires outputs { outs.now ≡ outputs_of_rule search.now.setting.il.now rule.now }
+    requires outputs { outs.now ≡ outputs_of_rule search.now.setting.index.now rule.now }
     ensures found { IfOk result (λ found. (g : Goal) (order : List ℕ) → g.inputs ≡ inputs.now
-        → IsRelation search.now.setting.il.now relation g.relation
-        → IsRuleOf search.now.setting.il.now g.relation number rule.now order
-        → AllByRecursion (IsPartial search.now.setting.il.now search.now.setting.depth g number
+        → IsRelation search.now.setting.index.now relation g.relation
+        → IsRuleOf search.now.setting.index.now g.relation number rule.now order
+        → AllByRecursion (IsPartial search.now.setting.index.now search.now.setting.depth g number
         rule.now (in_order rule.now.premises order)) ends.now
-        → Finds search.now.setting.il.now search.now.setting.depth 0
-        (sought_from (end_seeks search.now.setting.il.now search.now.setting.depth g rule.now)
+        → Finds search.now.setting.index.now search.now.setting.depth 0
+        (sought_from (end_seeks search.now.setting.index.now search.now.setting.depth g rule.now)
         ends.now) found) }
     ensures ends { IfErr result (λ fault. (left : ℕ) (g : Goal) (order : List ℕ)
-        → IsRuleOf search.now.setting.il.now g.relation number rule.now order
-        → AllByRecursion (IsPartial search.now.setting.il.now search.now.setting.depth g number
+        → IsRuleOf search.now.setting.index.now g.relation number rule.now order
+        → AllByRecursion (IsPartial search.now.setting.index.now search.now.setting.depth g number
         rule.now (in_order rule.now.premises order)) ends.now
-        → EndsBehind search.now.setting.il.now search.now.setting.depth left g fault) }
+        → EndsBehind search.now.setting.index.now search.now.setting.depth left g fault) }
 {
     if ends.is_empty() {
         return Ok(Row::new(alloc));

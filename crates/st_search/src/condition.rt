@@ -83,18 +83,18 @@ pub(crate) fn test(
     exp: &IlExp,
 ) -> Result<Row<Solution>, Stop>
     requires search { IsSearch search.now }
-    requires formed { IsFormed (syntaxes search.now.setting.il.now) exp.now }
+    requires formed { IsFormed (syntaxes search.now.setting.index.now) exp.now }
     ensures found { IfOk result (λ found. (root : Root) (bound : List Name) (ls : List Listed)
         (p : IlPrem) → out-IlPrem p ≡ IlPrem-F.If exp.now → all_known bound (vars exp.now) ≡ true
-        → HasOnly search.now.setting.il.now ls bound (scope_env scope.now)
-        → Finds search.now.setting.il.now search.now.setting.depth 0
-        (step_seeks search.now.setting.il.now search.now.setting.depth root bound ls
+        → HasOnly search.now.setting.index.now ls bound (scope_env scope.now)
+        → Finds search.now.setting.index.now search.now.setting.depth 0
+        (step_seeks search.now.setting.index.now search.now.setting.depth root bound ls
         (scope_env scope.now) p) found) }
     ensures stops { IfErr result (λ stop. (left : ℕ) (root : Root) (bound : List Name)
         (ls : List Listed) (p : IlPrem) → out-IlPrem p ≡ IlPrem-F.If exp.now
         → all_known bound (vars exp.now) ≡ true
-        → Stops search.now.setting.il.now search.now.setting.depth left
-        (step_seeks search.now.setting.il.now search.now.setting.depth root bound ls
+        → Stops search.now.setting.index.now search.now.setting.depth left
+        (step_seeks search.now.setting.index.now search.now.setting.depth root bound ls
         (scope_env scope.now) p) stop) }
 {
     let outcome = outcome_in(alloc, search, scope, exp)?;
@@ -123,12 +123,12 @@ fn matched(
 ) -> Result<Row<Solution>, NoMemory>
     requires search { IsSearch search.now }
     requires pattern { is_pattern pattern.now ≡ true }
-    requires formed { IsFormed (syntaxes search.now.setting.il.now) pattern.now }
+    requires formed { IsFormed (syntaxes search.now.setting.index.now) pattern.now }
     requires bound { all_known (names_of (scope_env scope.now) ++ binds pattern.now)
         (vars pattern.now) ≡ true }
     ensures { IfOk result (λ found. (few : Env) × (envs : List Env)
         × (few.entries ≡ entries_among (scope_env scope.now) (vars pattern.now))
-        × AreMatches (syntaxes search.now.setting.il.now) variables.now pattern.now value.now few
+        × AreMatches (syntaxes search.now.setting.index.now) variables.now pattern.now value.now few
         envs × (found ≡ with_children [] envs)) }
 {
     let few = bound_in(alloc, pattern, scope)?;
@@ -148,23 +148,23 @@ pub(crate) fn bind(
     side: &IlExp,
 ) -> Result<Row<Solution>, Stop>
     requires search { IsSearch search.now }
-    requires side { IsFormed (syntaxes search.now.setting.il.now) side.now }
+    requires side { IsFormed (syntaxes search.now.setting.index.now) side.now }
     requires pattern { is_pattern pattern.now ≡ true }
-    requires formed { IsFormed (syntaxes search.now.setting.il.now) pattern.now }
+    requires formed { IsFormed (syntaxes search.now.setting.index.now) pattern.now }
     requires bound { all_known (names_of (scope_env scope.now) ++ binds pattern.now)
         (vars pattern.now) ≡ true }
     ensures found { IfOk result (λ found. (root : Root) (bound : List Name) (p : IlPrem)
         (e : IlExp) → out-IlPrem p ≡ IlPrem-F.If e
-        → IsEquation search.now.setting.il.now bound variables.now e side.now pattern.now
-        → HasOnly search.now.setting.il.now variables.now bound (scope_env scope.now)
-        → Finds search.now.setting.il.now search.now.setting.depth 0
-        (step_seeks search.now.setting.il.now search.now.setting.depth root bound variables.now
+        → IsEquation search.now.setting.index.now bound variables.now e side.now pattern.now
+        → HasOnly search.now.setting.index.now variables.now bound (scope_env scope.now)
+        → Finds search.now.setting.index.now search.now.setting.depth 0
+        (step_seeks search.now.setting.index.now search.now.setting.depth root bound variables.now
         (scope_env scope.now) p) found) }
     ensures stops { IfErr result (λ stop. (left : ℕ) (root : Root) (bound : List Name)
         (p : IlPrem) (e : IlExp) → out-IlPrem p ≡ IlPrem-F.If e
-        → IsEquation search.now.setting.il.now bound variables.now e side.now pattern.now
-        → Stops search.now.setting.il.now search.now.setting.depth left
-        (step_seeks search.now.setting.il.now search.now.setting.depth root bound variables.now
+        → IsEquation search.now.setting.index.now bound variables.now e side.now pattern.now
+        → Stops search.now.setting.index.now search.now.setting.depth left
+        (step_seeks search.now.setting.index.now search.now.setting.depth root bound variables.now
         (scope_env scope.now) p) stop) }
 {
     let outcome = outcome_in(alloc, search, scope, side)?;

@@ -55,10 +55,10 @@ fn met_by(
 ) -> Result<Row<Solution>, NoMemory>
     requires search { IsSearch search.now }
     requires patterns { list_all is_pattern patterns.now ≡ true }
-    requires formed { AreFormed (syntaxes search.now.setting.il.now) patterns.now }
+    requires formed { AreFormed (syntaxes search.now.setting.index.now) patterns.now }
     requires bound { all_known (names_of (scope_env scope.now)
         ++ flattened (map binds patterns.now)) (vars_of patterns.now) ≡ true }
-    ensures { IfOk result (λ found. AreMeetings (syntaxes search.now.setting.il.now) variables.now
+    ensures { IfOk result (λ found. AreMeetings (syntaxes search.now.setting.index.now) variables.now
         (scope_env scope.now) holes.now patterns.now answer.now found) }
 {
     let values = fitting(alloc, holes, answer.values.as_slice())?;
@@ -86,10 +86,10 @@ fn met_by_all(
 ) -> Result<Row<Solution>, NoMemory>
     requires search { IsSearch search.now }
     requires patterns { list_all is_pattern patterns.now ≡ true }
-    requires formed { AreFormed (syntaxes search.now.setting.il.now) patterns.now }
+    requires formed { AreFormed (syntaxes search.now.setting.index.now) patterns.now }
     requires bound { all_known (names_of (scope_env scope.now)
         ++ flattened (map binds patterns.now)) (vars_of patterns.now) ≡ true }
-    ensures { IfOk result (λ found. AllMeetings (syntaxes search.now.setting.il.now) variables.now
+    ensures { IfOk result (λ found. AllMeetings (syntaxes search.now.setting.index.now) variables.now
         (scope_env scope.now) holes.now patterns.now answers.now found) }
 {
     let mut found = Row::new(alloc);
@@ -114,20 +114,20 @@ fn answered<F: Finder>(
     requires search { IsSearch search.now }
     requires callable { F.IsCallable finder.now }
     requires can { (bound : List Name) × (p : IlPrem) × (ins : List IlExp)
-        × HasOnly search.now.setting.il.now variables.now bound (scope_env scope.now)
-        × IsGoalOf search.now.setting.il.now bound variables.now p relation.now ins outs.now }
-    ensures short { IfOk result (λ found. IsShort search.now.setting.il.now
+        × HasOnly search.now.setting.index.now variables.now bound (scope_env scope.now)
+        × IsGoalOf search.now.setting.index.now bound variables.now p relation.now ins outs.now }
+    ensures short { IfOk result (λ found. IsShort search.now.setting.index.now
         search.now.setting.depth (F.answers finder.now) found.longest) }
-    ensures found { IfOk result (λ found. FindsWhere search.now.setting.il.now
+    ensures found { IfOk result (λ found. FindsWhere search.now.setting.index.now
         search.now.setting.depth (F.answers finder.now) variables.now (scope_env scope.now)
-        (λ bound p. IsAskedWith search.now.setting.il.now search.now.setting.depth bound
+        (λ bound p. IsAskedWith search.now.setting.index.now search.now.setting.depth bound
         variables.now (scope_env scope.now) p relation.now inputs outs.now) found) }
-    ensures binds { IfOk result (λ found. BindsWhere search.now.setting.il.now variables.now
-        (scope_env scope.now) (λ bound p. (ins : List IlExp) × IsGoalOf search.now.setting.il.now
+    ensures binds { IfOk result (λ found. BindsWhere search.now.setting.index.now variables.now
+        (scope_env scope.now) (λ bound p. (ins : List IlExp) × IsGoalOf search.now.setting.index.now
         bound variables.now p relation.now ins outs.now) found.items) }
-    ensures stops { IfErr result (λ stop. StopsWhere search.now.setting.il.now
+    ensures stops { IfErr result (λ stop. StopsWhere search.now.setting.index.now
         search.now.setting.depth (F.answers finder.now) variables.now (scope_env scope.now)
-        (λ bound p. IsAskedWith search.now.setting.il.now search.now.setting.depth bound
+        (λ bound p. IsAskedWith search.now.setting.index.now search.now.setting.depth bound
         variables.now (scope_env scope.now) p relation.now inputs outs.now) stop) }
 {
     let holes = holes_of(alloc, search, Evaluated::Computed, scope, outs)?;
@@ -173,20 +173,20 @@ pub(crate) fn ask<F: Finder>(
     requires search { IsSearch search.now }
     requires callable { F.IsCallable finder.now }
     requires can { (bound : List Name) × (p : IlPrem)
-        × HasOnly search.now.setting.il.now variables.now bound (scope_env scope.now)
-        × IsGoalOf search.now.setting.il.now bound variables.now p relation.now ins.now outs.now }
-    ensures short { IfOk result (λ found. IsShort search.now.setting.il.now
+        × HasOnly search.now.setting.index.now variables.now bound (scope_env scope.now)
+        × IsGoalOf search.now.setting.index.now bound variables.now p relation.now ins.now outs.now }
+    ensures short { IfOk result (λ found. IsShort search.now.setting.index.now
         search.now.setting.depth (F.answers finder.now) found.longest) }
-    ensures found { IfOk result (λ found. FindsWhere search.now.setting.il.now
+    ensures found { IfOk result (λ found. FindsWhere search.now.setting.index.now
         search.now.setting.depth (F.answers finder.now) variables.now (scope_env scope.now)
-        (λ bound p. IsGoalOf search.now.setting.il.now bound variables.now p relation.now ins.now
+        (λ bound p. IsGoalOf search.now.setting.index.now bound variables.now p relation.now ins.now
         outs.now) found) }
-    ensures binds { IfOk result (λ found. BindsWhere search.now.setting.il.now variables.now
-        (scope_env scope.now) (λ bound p. IsGoalOf search.now.setting.il.now bound variables.now p
+    ensures binds { IfOk result (λ found. BindsWhere search.now.setting.index.now variables.now
+        (scope_env scope.now) (λ bound p. IsGoalOf search.now.setting.index.now bound variables.now p
         relation.now ins.now outs.now) found.items) }
-    ensures stops { IfErr result (λ stop. StopsWhere search.now.setting.il.now
+    ensures stops { IfErr result (λ stop. StopsWhere search.now.setting.index.now
         search.now.setting.depth (F.answers finder.now) variables.now (scope_env scope.now)
-        (λ bound p. IsGoalOf search.now.setting.il.now bound variables.now p relation.now ins.now
+        (λ bound p. IsGoalOf search.now.setting.index.now bound variables.now p relation.now ins.now
         outs.now) stop) }
 {
     let inputs = values_of(alloc, search, scope, ins)?;

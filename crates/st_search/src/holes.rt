@@ -77,8 +77,8 @@ pub(crate) fn outcome_in(
     exp: &IlExp,
 ) -> Result<Outcome, NoMemory>
     requires search { IsSearch search.now }
-    requires formed { IsFormed (syntaxes search.now.setting.il.now) exp.now }
-    ensures { IfOk result (λ outcome. ValueAt search.now.setting.il.now
+    requires formed { IsFormed (syntaxes search.now.setting.index.now) exp.now }
+    ensures { IfOk result (λ outcome. ValueAt search.now.setting.index.now
         search.now.setting.depth (scope_env scope.now) exp.now outcome) }
 {
     let env = bound_in(alloc, exp, scope)?;
@@ -95,11 +95,11 @@ fn hole_of(
     exp: &IlExp,
 ) -> Result<Hole, Stop>
     requires search { IsSearch search.now }
-    requires formed { IsFormed (syntaxes search.now.setting.il.now) exp.now }
-    ensures found { IfOk result (λ hole. IsHole search.now.setting.il.now
+    requires formed { IsFormed (syntaxes search.now.setting.index.now) exp.now }
+    ensures found { IfOk result (λ hole. IsHole search.now.setting.index.now
         search.now.setting.depth (scope_env scope.now) which exp.now hole) }
     ensures stops { IfErr result (λ stop. StopsIf ((is_evaluated which exp.now ≡ true)
-        × ValueAt search.now.setting.il.now search.now.setting.depth (scope_env scope.now)
+        × ValueAt search.now.setting.index.now search.now.setting.depth (scope_env scope.now)
         exp.now variant.Deep) stop) }
 {
     let evaluated = is_evaluated(alloc, which, exp)?;
@@ -124,10 +124,10 @@ pub(crate) fn holes_of(
     exps: &[IlExp],
 ) -> Result<Row<Hole>, Stop>
     requires search { IsSearch search.now }
-    requires formed { AreFormed (syntaxes search.now.setting.il.now) exps.now }
-    ensures found { IfOk result (λ holes. AreHoles search.now.setting.il.now
+    requires formed { AreFormed (syntaxes search.now.setting.index.now) exps.now }
+    ensures found { IfOk result (λ holes. AreHoles search.now.setting.index.now
         search.now.setting.depth (scope_env scope.now) which exps.now holes) }
-    ensures stops { IfErr result (λ stop. StopsIf (HasDeepHole search.now.setting.il.now
+    ensures stops { IfErr result (λ stop. StopsIf (HasDeepHole search.now.setting.index.now
         search.now.setting.depth (scope_env scope.now) which exps.now) stop) }
 {
     let mut holes = Row::new(alloc);
@@ -258,12 +258,12 @@ pub(crate) fn extended(
 ) -> Result<Row<Env>, NoMemory>
     requires search { IsSearch search.now }
     requires patterns { list_all is_pattern patterns.now ≡ true }
-    requires formed { AreFormed (syntaxes search.now.setting.il.now) patterns.now }
+    requires formed { AreFormed (syntaxes search.now.setting.index.now) patterns.now }
     requires bound { all_known (names_of (scope_env scope.now)
         ++ flattened (map binds patterns.now)) (vars_of patterns.now) ≡ true }
     ensures { IfOk result (λ found. (few : Env)
         × (few.entries ≡ entries_among (scope_env scope.now) (vars_of patterns.now))
-        × AreExtensions (syntaxes search.now.setting.il.now) variables.now patterns.now values.now
+        × AreExtensions (syntaxes search.now.setting.index.now) variables.now patterns.now values.now
         few found) }
 {
     let few = bound_in_all(alloc, patterns, scope)?;
@@ -280,9 +280,9 @@ pub(crate) fn values_of(
     exps: &[IlExp],
 ) -> Result<Outcomes, NoMemory>
     requires search { IsSearch search.now }
-    requires formed { AreFormed (syntaxes search.now.setting.il.now) exps.now }
-    ensures { IfOk result (λ outcomes. GivesAll (syntaxes search.now.setting.il.now)
-        (CallAt search.now.setting.il.now search.now.setting.depth)
+    requires formed { AreFormed (syntaxes search.now.setting.index.now) exps.now }
+    ensures { IfOk result (λ outcomes. GivesAll (syntaxes search.now.setting.index.now)
+        (CallAt search.now.setting.index.now search.now.setting.depth)
         (tasks (scope_env scope.now) exps.now) outcomes) }
 {
     let mut values = Row::new(alloc);

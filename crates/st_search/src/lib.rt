@@ -4,14 +4,15 @@
 //! a mark and inputs of its types. What goes out is each output that is derivable, in the order of
 //! values, with a tree that is valid at the depth; or a chain of goals that leads to what is Deep.
 //!
-//! Goals are searched by `search`, which passes itself, with one goal less, to what runs the rules of a
-//! relation (`relation`, `rule`). The run of a rule begins where its inputs match (`start`), goes on
-//! premise by premise (`advance`) and gives outputs at its ends (`conclude`), each with its tree
-//! (`tree`), in the order of values (`ordered`). A premise is run by `step`: a condition by
-//! `condition`, a goal by `goal`, an iterated premise element by element, and then `gather`. What stands
-//! at the holes of a goal comes to values or is matched (`holes`). Why a premise is not run to its end
-//! is told by `stop`, with its number by `orders`. Of which languages relations can be searched is told
-//! by `searchable` and `literals`.
+//! What each search needs of a language is made once (`language`), so that a search takes no longer
+//! where the language has more definitions. Goals are searched by `search`, which passes itself, with
+//! one goal less, to what runs the rules of a relation (`relation`, `rule`). The run of a rule begins
+//! where its inputs match (`start`), goes on premise by premise (`advance`) and gives outputs at its
+//! ends (`conclude`), each with its tree (`tree`), in the order of values (`ordered`). A premise is
+//! run by `step`: a condition by `condition`, a goal by `goal`, an iterated premise element by
+//! element, and then `gather`. What stands at the holes of a goal comes to values or is matched
+//! (`holes`). Why a premise is not run to its end is told by `stop`, with its number by `orders`. Of
+//! which languages relations can be searched is told by `searchable` and `literals`.
 //!
 //! The one idea: what a premise leads to is told apart from how it is found, as exactly the ways in which
 //! it holds, where all goals that it asks are answered so. Read `specs/Searchable.antt` and
@@ -29,6 +30,7 @@ mod found;
 mod gather;
 mod goal;
 mod holes;
+mod language;
 mod literals;
 mod ordered;
 mod orders;
@@ -43,6 +45,7 @@ mod stop;
 mod tree;
 
 pub use answer::{Chain, Output, Outputs, SearchFault};
+pub use language::{SearchedLanguage, searched_language};
 pub use literals::proper;
-pub use search::outputs;
+pub use search::{outputs, outputs_in};
 pub use searchable::typed_languages_are_searchable;

@@ -27,7 +27,7 @@ pub(crate) fn order_of(
     requires search { IsSearch search.now }
     requires few { length rule.now.premises < 2 ^ 32 }
     ensures { IfOk result (λ row. (order : List ℕ)
-        → order_of search.now.setting.il.now rule.now ≡ Ok order → row ≡ order) }
+        → order_of search.now.setting.index.now rule.now ≡ Ok order → row ≡ order) }
 {
     if rule.premises.is_empty() {
         return Ok(Row::new(alloc));
@@ -60,7 +60,7 @@ fn fault_at(
     requires search { IsSearch search.now }
     requires few { length rule.now.premises < 2 ^ 32 }
     ensures { IfOk result (λ fault. (premise : ℕ)
-        × IsNumberAt search.now.setting.il.now rule.now position premise
+        × IsNumberAt search.now.setting.index.now rule.now position premise
         × (fault ≡ fault_by (full_name rule.now) premise stop)) }
 {
     let order = order_of(alloc, search, rule)?;
@@ -82,7 +82,7 @@ pub(crate) fn at_position<T>(
     ensures found { IfOk result (λ value. found ≡ Ok value) }
     ensures stopped { IfErr result (λ error. (error ≡ fault.Memory)
         ⊎ ((premise : ℕ) × (stop : Stop)
-        × IsNumberAt search.now.setting.il.now rule.now position premise × (found ≡ Err stop)
+        × IsNumberAt search.now.setting.index.now rule.now position premise × (found ≡ Err stop)
         × (error ≡ fault_by (full_name rule.now) premise stop))) }
 {
     match found {

@@ -1,16 +1,16 @@
 //! Relations that are searched: all their rules are run, and what they derive is put in order.
 
-ghost use Rattle.std.specs.Prelude.{◌≡◌, false, ℕ, Some, All, slice_get, bytes_eq, IfOk, IfErr, MatchOption, find};
+ghost use Rattle.std.specs.Prelude.{◌≡◌, ℕ, Some, slice_get, IfOk, IfErr};
 ghost use Rattle.std.specs.Option.{option_copied};
-ghost use Rattle.st_il.specs.declared.definition.RelationDef.{RelationDef};
 ghost use Rattle.st_il.specs.Names.{Name};
 ghost use Rattle.st_il.specs.Definitions.{IsRelation, rules_of};
 ghost use Rattle.st_semantics.specs.Goals.{Goal};
-ghost use Rattle.st_order.specs.Known.{all_now};
+ghost use Rattle.st_index.specs.Names.{all_now};
+ghost use Rattle.st_index.specs.Numbers.{IsFirstRelation};
 ghost use Rattle.st_search.specs.Answers.{goal_of, AreSorted};
 ghost use Rattle.st_search.specs.inner.Chains.{EndsBehind};
 ghost use Rattle.st_search.specs.inner.Contracts.{IsShort};
-ghost use Rattle.st_search.specs.inner.Rules.{CanBeSearched, IsFirstRelation, algorithm_at, numbered_seeks, goal_seeks};
+ghost use Rattle.st_search.specs.inner.Rules.{CanBeSearched, algorithm_at, numbered_seeks, goal_seeks};
 ghost use Rattle.st_search.specs.inner.Search.{IsSearch, AnswersGoals};
 ghost use Rattle.st_search.specs.inner.Sought.{Finds};
 
@@ -21,26 +21,9 @@ use crate::ordered::with_outputs;
 use crate::rule::run_rule;
 use crate::setting::Search;
 use st_algo::{Algorithm, Algos};
-use st_il::{RelationDef, RuleDef, Value};
+use st_il::{RuleDef, Value};
 use st_num::{Name, Row};
-use st_order::rules_of;
 use std::alloc::Global;
-
-/// The number of the first relation of a name.
-fn number_of(relations: &[&RelationDef], name: &Name) -> Option<usize>
-    ensures { MatchOption result
-        (All (λ (r : RelationDef). bytes_eq name.now r.name ≡ false) (all_now relations.now))
-        (λ number. (r : RelationDef) × (slice_get (all_now relations.now) number ≡ Some r)
-        × (find (λ (x : RelationDef). bytes_eq name.now x.name) (all_now relations.now)
-        ≡ Some r)) }
-{
-    for i in 0..relations.len() {
-        if name.as_slice() == relations[i].name.as_slice() {
-            return Some(i);
-        }
-    }
-    None
-}
 
 /// The algorithm of a rule, both by their numbers.
 fn algorithm_at(algos: &Algos, relation: usize, rule: usize) -> Option<&Algorithm>
@@ -67,22 +50,22 @@ fn run_numbered<F: Finder>(
 ) -> Result<Found<Output>, SearchFault>
     requires search { IsSearch search.now }
     requires callable { F.IsCallable finder.now }
-    requires rule { (name : Name) × IsFirstRelation search.now.setting.il.now relation name
-        × (slice_get (rules_of search.now.setting.il.now name) number ≡ Some rule.now) }
-    ensures short { IfOk result (λ found. IsShort search.now.setting.il.now
+    requires rule { (name : Name) × IsFirstRelation search.now.setting.index.now relation name
+        × (slice_get (rules_of search.now.setting.index.now name) number ≡ Some rule.now) }
+    ensures short { IfOk result (λ found. IsShort search.now.setting.index.now
         search.now.setting.depth (F.answers finder.now) found.longest) }
     ensures found { IfOk result (λ found. (left : ℕ) (g : Goal)
-        → AnswersGoals search.now.setting.il.now search.now.setting.depth left
-        (F.answers finder.now) → CanBeSearched search.now.setting.il.now g.relation
-        → g.inputs ≡ inputs.now → IsRelation search.now.setting.il.now relation g.relation
-        → Finds search.now.setting.il.now search.now.setting.depth found.longest
-        (numbered_seeks search.now.setting.il.now search.now.setting.depth g number rule.now)
+        → AnswersGoals search.now.setting.index.now search.now.setting.depth left
+        (F.answers finder.now) → CanBeSearched search.now.setting.index.now g.relation
+        → g.inputs ≡ inputs.now → IsRelation search.now.setting.index.now relation g.relation
+        → Finds search.now.setting.index.now search.now.setting.depth found.longest
+        (numbered_seeks search.now.setting.index.now search.now.setting.depth g number rule.now)
         found.items) }
     ensures ends { IfErr result (λ fault. (left : ℕ) (g : Goal)
-        → AnswersGoals search.now.setting.il.now search.now.setting.depth left
-        (F.answers finder.now) → CanBeSearched search.now.setting.il.now g.relation
-        → g.inputs ≡ inputs.now → IsRelation search.now.setting.il.now relation g.relation
-        → EndsBehind search.now.setting.il.now search.now.setting.depth left g fault) }
+        → AnswersGoals search.now.setting.index.now search.now.setting.depth left
+        (F.answers finder.now) → CanBeSearched search.now.setting.index.now g.relation
+        → g.inputs ≡ inputs.now → IsRelation search.now.setting.index.now relation g.relation
+        → EndsBehind search.now.setting.index.now search.now.setting.depth left g fault) }
 {
     match algorithm_at(search.algos, relation, number) {
         None => Ok(nothing(alloc)),
@@ -108,22 +91,22 @@ fn run_all<F: Finder>(
 ) -> Result<Found<Output>, SearchFault>
     requires search { IsSearch search.now }
     requires callable { F.IsCallable finder.now }
-    requires rules { (name : Name) × IsFirstRelation search.now.setting.il.now relation name
-        × (all_now rules.now ≡ rules_of search.now.setting.il.now name) }
-    ensures short { IfOk result (λ found. IsShort search.now.setting.il.now
+    requires rules { (name : Name) × IsFirstRelation search.now.setting.index.now relation name
+        × (all_now rules.now ≡ rules_of search.now.setting.index.now name) }
+    ensures short { IfOk result (λ found. IsShort search.now.setting.index.now
         search.now.setting.depth (F.answers finder.now) found.longest) }
     ensures sorted { IfOk result (λ found. AreSorted found.items) }
     ensures found { IfOk result (λ found. (left : ℕ) (g : Goal)
-        → AnswersGoals search.now.setting.il.now search.now.setting.depth left
-        (F.answers finder.now) → CanBeSearched search.now.setting.il.now g.relation
-        → g.inputs ≡ inputs.now → IsRelation search.now.setting.il.now relation g.relation
-        → Finds search.now.setting.il.now search.now.setting.depth found.longest
-        (goal_seeks search.now.setting.il.now search.now.setting.depth g) found.items) }
+        → AnswersGoals search.now.setting.index.now search.now.setting.depth left
+        (F.answers finder.now) → CanBeSearched search.now.setting.index.now g.relation
+        → g.inputs ≡ inputs.now → IsRelation search.now.setting.index.now relation g.relation
+        → Finds search.now.setting.index.now search.now.setting.depth found.longest
+        (goal_seeks search.now.setting.index.now search.now.setting.depth g) found.items) }
     ensures ends { IfErr result (λ fault. (left : ℕ) (g : Goal)
-        → AnswersGoals search.now.setting.il.now search.now.setting.depth left
-        (F.answers finder.now) → CanBeSearched search.now.setting.il.now g.relation
-        → g.inputs ≡ inputs.now → IsRelation search.now.setting.il.now relation g.relation
-        → EndsBehind search.now.setting.il.now search.now.setting.depth left g fault) }
+        → AnswersGoals search.now.setting.index.now search.now.setting.depth left
+        (F.answers finder.now) → CanBeSearched search.now.setting.index.now g.relation
+        → g.inputs ≡ inputs.now → IsRelation search.now.setting.index.now relation g.relation
+        → EndsBehind search.now.setting.index.now search.now.setting.depth left g fault) }
 {
     let mut items = Row::new(alloc);
     let mut longest = 0;
@@ -145,26 +128,27 @@ pub(crate) fn run_relation<F: Finder>(
 ) -> Result<Found<Output>, SearchFault>
     requires search { IsSearch search.now }
     requires callable { F.IsCallable finder.now }
-    ensures short { IfOk result (λ found. IsShort search.now.setting.il.now
+    ensures short { IfOk result (λ found. IsShort search.now.setting.index.now
         search.now.setting.depth (F.answers finder.now) found.longest) }
     ensures sorted { IfOk result (λ found. AreSorted found.items) }
     ensures found { IfOk result (λ found. (left : ℕ)
-        → AnswersGoals search.now.setting.il.now search.now.setting.depth left
-        (F.answers finder.now) → CanBeSearched search.now.setting.il.now relation.now
-        → Finds search.now.setting.il.now search.now.setting.depth found.longest
-        (goal_seeks search.now.setting.il.now search.now.setting.depth
+        → AnswersGoals search.now.setting.index.now search.now.setting.depth left
+        (F.answers finder.now) → CanBeSearched search.now.setting.index.now relation.now
+        → Finds search.now.setting.index.now search.now.setting.depth found.longest
+        (goal_seeks search.now.setting.index.now search.now.setting.depth
         (goal_of relation.now inputs.now)) found.items) }
     ensures ends { IfErr result (λ fault. (left : ℕ)
-        → AnswersGoals search.now.setting.il.now search.now.setting.depth left
-        (F.answers finder.now) → CanBeSearched search.now.setting.il.now relation.now
-        → EndsBehind search.now.setting.il.now search.now.setting.depth left
+        → AnswersGoals search.now.setting.index.now search.now.setting.depth left
+        (F.answers finder.now) → CanBeSearched search.now.setting.index.now relation.now
+        → EndsBehind search.now.setting.index.now search.now.setting.depth left
         (goal_of relation.now inputs.now) fault) }
 {
-    match number_of(search.relations, relation) {
+    let index = search.setting.index;
+    match index.number_of_relation(relation) {
         None => Ok(nothing(alloc)),
         Some(number) => {
-            let rules = rules_of(alloc, search.setting.il, relation)?;
-            let found = run_all(alloc, search, finder, number, rules.as_slice(), inputs)?;
+            let rules = index.rules_of(relation);
+            let found = run_all(alloc, search, finder, number, rules, inputs)?;
             Ok(found)
         }
     }

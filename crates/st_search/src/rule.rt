@@ -77,29 +77,29 @@ fn run_steps<F: Finder>(
 ) -> Result<Found<Partial>, SearchFault>
     requires search { IsSearch search.now }
     requires callable { F.IsCallable finder.now }
-    requires rule { CanBeRun search.now.setting.il.now rule.now }
+    requires rule { CanBeRun search.now.setting.index.now rule.now }
     requires few { length rule.now.premises < 2 ^ 32 }
-    requires steps { AreSteps search.now.setting.il.now rule.now steps.now }
-    requires starts { AllEndWith search.now.setting.il.now rule.now.variables
-        (vars_of (inputs_of_rule search.now.setting.il.now rule.now)) starts }
-    ensures short { IfOk result (λ found. IsShort search.now.setting.il.now
+    requires steps { AreSteps search.now.setting.index.now rule.now steps.now }
+    requires starts { AllEndWith search.now.setting.index.now rule.now.variables
+        (vars_of (inputs_of_rule search.now.setting.index.now rule.now)) starts }
+    ensures short { IfOk result (λ found. IsShort search.now.setting.index.now
         search.now.setting.depth (F.answers finder.now) found.longest) }
     ensures found { IfOk result (λ found. (left : ℕ) (g : Goal) (number : ℕ) (order : List ℕ)
-        → AnswersGoals search.now.setting.il.now search.now.setting.depth left
-        (F.answers finder.now) → CanBeSearched search.now.setting.il.now g.relation
-        → IsRuleOf search.now.setting.il.now g.relation number rule.now order
-        → Finds search.now.setting.il.now search.now.setting.depth 0
-        (run_seeks search.now.setting.il.now search.now.setting.depth g number rule.now []) starts
-        → Finds search.now.setting.il.now search.now.setting.depth found.longest
-        (run_seeks search.now.setting.il.now search.now.setting.depth g number rule.now
+        → AnswersGoals search.now.setting.index.now search.now.setting.depth left
+        (F.answers finder.now) → CanBeSearched search.now.setting.index.now g.relation
+        → IsRuleOf search.now.setting.index.now g.relation number rule.now order
+        → Finds search.now.setting.index.now search.now.setting.depth 0
+        (run_seeks search.now.setting.index.now search.now.setting.depth g number rule.now []) starts
+        → Finds search.now.setting.index.now search.now.setting.depth found.longest
+        (run_seeks search.now.setting.index.now search.now.setting.depth g number rule.now
         (in_order rule.now.premises order)) found.items) }
     ensures ends { IfErr result (λ fault. (left : ℕ) (g : Goal) (number : ℕ) (order : List ℕ)
-        → AnswersGoals search.now.setting.il.now search.now.setting.depth left
-        (F.answers finder.now) → CanBeSearched search.now.setting.il.now g.relation
-        → IsRuleOf search.now.setting.il.now g.relation number rule.now order
-        → Finds search.now.setting.il.now search.now.setting.depth 0
-        (run_seeks search.now.setting.il.now search.now.setting.depth g number rule.now []) starts
-        → EndsBehind search.now.setting.il.now search.now.setting.depth left g fault) }
+        → AnswersGoals search.now.setting.index.now search.now.setting.depth left
+        (F.answers finder.now) → CanBeSearched search.now.setting.index.now g.relation
+        → IsRuleOf search.now.setting.index.now g.relation number rule.now order
+        → Finds search.now.setting.index.now search.now.setting.depth 0
+        (run_seeks search.now.setting.index.now search.now.setting.depth g number rule.now []) starts
+        → EndsBehind search.now.setting.index.now search.now.setting.depth left g fault) }
 {
     let variables = rule.variables.as_slice();
     let mut ends = starts;
@@ -130,34 +130,34 @@ fn run_matched<F: Finder>(
 ) -> Result<Found<Output>, SearchFault>
     requires search { IsSearch search.now }
     requires callable { F.IsCallable finder.now }
-    requires rule { CanBeRun search.now.setting.il.now rule.now }
+    requires rule { CanBeRun search.now.setting.index.now rule.now }
     requires few { length rule.now.premises < 2 ^ 32 }
-    requires steps { AreSteps search.now.setting.il.now rule.now parts.steps.now }
-    requires outputs { parts.outputs.now ≡ outputs_of_rule search.now.setting.il.now rule.now }
-    requires starts { AllEndWith search.now.setting.il.now rule.now.variables
-        (vars_of (inputs_of_rule search.now.setting.il.now rule.now)) starts }
-    ensures short { IfOk result (λ found. IsShort search.now.setting.il.now
+    requires steps { AreSteps search.now.setting.index.now rule.now parts.steps.now }
+    requires outputs { parts.outputs.now ≡ outputs_of_rule search.now.setting.index.now rule.now }
+    requires starts { AllEndWith search.now.setting.index.now rule.now.variables
+        (vars_of (inputs_of_rule search.now.setting.index.now rule.now)) starts }
+    ensures short { IfOk result (λ found. IsShort search.now.setting.index.now
         search.now.setting.depth (F.answers finder.now) found.longest) }
     ensures found { IfOk result (λ found. (left : ℕ) (g : Goal) (order : List ℕ)
-        → AnswersGoals search.now.setting.il.now search.now.setting.depth left
-        (F.answers finder.now) → CanBeSearched search.now.setting.il.now g.relation
+        → AnswersGoals search.now.setting.index.now search.now.setting.depth left
+        (F.answers finder.now) → CanBeSearched search.now.setting.index.now g.relation
         → g.inputs ≡ inputs.now
-        → IsRelation search.now.setting.il.now relation g.relation
-        → IsRuleOf search.now.setting.il.now g.relation number rule.now order
-        → (HasDeepHole search.now.setting.il.now search.now.setting.depth no_variables
-        evaluated.Closed (inputs_of_rule search.now.setting.il.now rule.now) → ⊥)
-        → Finds search.now.setting.il.now search.now.setting.depth 0
-        (run_seeks search.now.setting.il.now search.now.setting.depth g number rule.now []) starts
-        → Finds search.now.setting.il.now search.now.setting.depth found.longest
-        (rule_seeks search.now.setting.il.now search.now.setting.depth g number rule.now order)
+        → IsRelation search.now.setting.index.now relation g.relation
+        → IsRuleOf search.now.setting.index.now g.relation number rule.now order
+        → (HasDeepHole search.now.setting.index.now search.now.setting.depth no_variables
+        evaluated.Closed (inputs_of_rule search.now.setting.index.now rule.now) → ⊥)
+        → Finds search.now.setting.index.now search.now.setting.depth 0
+        (run_seeks search.now.setting.index.now search.now.setting.depth g number rule.now []) starts
+        → Finds search.now.setting.index.now search.now.setting.depth found.longest
+        (rule_seeks search.now.setting.index.now search.now.setting.depth g number rule.now order)
         found.items) }
     ensures ends { IfErr result (λ fault. (left : ℕ) (g : Goal) (order : List ℕ)
-        → AnswersGoals search.now.setting.il.now search.now.setting.depth left
-        (F.answers finder.now) → CanBeSearched search.now.setting.il.now g.relation
-        → IsRuleOf search.now.setting.il.now g.relation number rule.now order
-        → Finds search.now.setting.il.now search.now.setting.depth 0
-        (run_seeks search.now.setting.il.now search.now.setting.depth g number rule.now []) starts
-        → EndsBehind search.now.setting.il.now search.now.setting.depth left g fault) }
+        → AnswersGoals search.now.setting.index.now search.now.setting.depth left
+        (F.answers finder.now) → CanBeSearched search.now.setting.index.now g.relation
+        → IsRuleOf search.now.setting.index.now g.relation number rule.now order
+        → Finds search.now.setting.index.now search.now.setting.depth 0
+        (run_seeks search.now.setting.index.now search.now.setting.depth g number rule.now []) starts
+        → EndsBehind search.now.setting.index.now search.now.setting.depth left g fault) }
 {
     let run = run_steps(alloc, search, finder, rule, parts.steps, starts)?;
     let outs = parts.outputs;
@@ -181,25 +181,25 @@ pub(crate) fn run_rule<F: Finder>(
     requires search { IsSearch search.now }
     requires callable { F.IsCallable finder.now }
     requires ruled { (name : Name)
-        × IsRuledBy search.now.setting.il.now name number rule.now algorithm.now }
-    ensures short { IfOk result (λ found. IsShort search.now.setting.il.now
+        × IsRuledBy search.now.setting.index.now name number rule.now algorithm.now }
+    ensures short { IfOk result (λ found. IsShort search.now.setting.index.now
         search.now.setting.depth (F.answers finder.now) found.longest) }
     ensures found { IfOk result (λ found. (left : ℕ) (g : Goal) (order : List ℕ)
-        → AnswersGoals search.now.setting.il.now search.now.setting.depth left
-        (F.answers finder.now) → CanBeSearched search.now.setting.il.now g.relation
+        → AnswersGoals search.now.setting.index.now search.now.setting.depth left
+        (F.answers finder.now) → CanBeSearched search.now.setting.index.now g.relation
         → g.inputs ≡ inputs.now
-        → IsRelation search.now.setting.il.now relation g.relation
-        → IsRuleOf search.now.setting.il.now g.relation number rule.now order
-        → Finds search.now.setting.il.now search.now.setting.depth found.longest
-        (rule_seeks search.now.setting.il.now search.now.setting.depth g number rule.now order)
+        → IsRelation search.now.setting.index.now relation g.relation
+        → IsRuleOf search.now.setting.index.now g.relation number rule.now order
+        → Finds search.now.setting.index.now search.now.setting.depth found.longest
+        (rule_seeks search.now.setting.index.now search.now.setting.depth g number rule.now order)
         found.items) }
     ensures ends { IfErr result (λ fault. (left : ℕ) (g : Goal) (order : List ℕ)
-        → AnswersGoals search.now.setting.il.now search.now.setting.depth left
-        (F.answers finder.now) → CanBeSearched search.now.setting.il.now g.relation
+        → AnswersGoals search.now.setting.index.now search.now.setting.depth left
+        (F.answers finder.now) → CanBeSearched search.now.setting.index.now g.relation
         → g.inputs ≡ inputs.now
-        → IsRelation search.now.setting.il.now relation g.relation
-        → IsRuleOf search.now.setting.il.now g.relation number rule.now order
-        → EndsBehind search.now.setting.il.now search.now.setting.depth left g fault) }
+        → IsRelation search.now.setting.index.now relation g.relation
+        → IsRuleOf search.now.setting.index.now g.relation number rule.now order
+        → EndsBehind search.now.setting.index.now search.now.setting.depth left g fault) }
 {
     let Some(parts) = parts_of(algorithm) else {
         return Ok(nothing(alloc));

@@ -4,8 +4,7 @@
 //! recurses over goals.
 
 ghost use Rattle.std.specs.Prelude.{◌≡◌, ◌≤◌, ◌∷◌, [], false, None, IfOk};
-ghost use Rattle.st_order.specs.Known.{AreDirections, all_now};
-ghost use Rattle.st_il.specs.Definitions.{relations};
+ghost use Rattle.st_order.specs.Known.{AreDirections};
 ghost use Rattle.st_semantics.specs.Goals.{AreInputs};
 ghost use Rattle.st_semantics.specs.Marks.{HasMark};
 ghost use Rattle.st_search.specs.Searchable.{IsSearchable, HasNoOtherwise};
@@ -15,13 +14,14 @@ ghost use Rattle.st_search.specs.inner.Search.{IsSearch, IsSolved};
 
 use crate::answer::{Chain, Output, Outputs, SearchFault};
 use crate::found::{Found, joined};
+use crate::language::{SearchedLanguage, searched_language};
 use crate::relation::run_relation;
 use crate::setting::Search;
 use st_algo::Algos;
 use st_eval::Setting;
-use st_il::{Il, RelationDef, Value, copy_values};
+use st_il::{Il, Value, copy_values};
 use st_num::{Name, NoMemory, Row};
-use st_order::{Directions, directions_of, relations_of};
+use st_order::Directions;
 use st_types::TypeTable;
 use std::alloc::Global;
 
@@ -87,7 +87,7 @@ fn solve(
 ) -> Result<Found<Output>, SearchFault>
     requires search { IsSearch search.now }
     requires left { 1 ≤ left }
-    ensures solved { IsSolved search.now.setting.il.now search.now.setting.depth left
+    ensures solved { IsSolved search.now.setting.index.now search.now.setting.depth left
         (goal_of relation.now inputs.now) result }
     ensures sorted { IfOk result (λ found. AreSorted found.items) }
 {
@@ -102,7 +102,7 @@ fn solve(
         &|inner: &Name, values: Row<Value>|
             requires search { IsSearch search.now }
             requires less { 1 ≤ less }
-            ensures { IsSolved search.entry.now.setting.il.now search.entry.now.setting.depth less
+            ensures { IsSolved search.entry.now.setting.index.now search.entry.now.setting.depth less
                 (goal_of inner.now values) result }
         { solve(alloc, search, inner, values.as_slice(), less) },
         relation,
@@ -120,21 +120,19 @@ fn solve(
 
 /// All that a relation derives from these inputs, where as many goals may stand below each other as
 /// calls may be open at once, and this is kept of the language.
-fn solve_with(
+pub(crate) fn solve_with<'a>(
     alloc: Global,
-    setting: Setting<'_>,
-    algos: &Algos,
-    directions: &Directions<'_>,
-    declared: &[&RelationDef],
+    setting: Setting<'a>,
+    algos: &'a Algos,
+    directions: &'a Directions<'a>,
     relation: &Name,
     inputs: &[Value],
 ) -> Result<Found<Output>, SearchFault>
-    requires language { IsSearchable setting.il.now setting.types.now algos.now }
+    requires language { IsSearchable setting.index.now setting.types.now algos.now }
     requires directions { AreDirections directions.now }
-    requires same { directions.now.il.now ≡ setting.il.now }
-    requires declared { all_now declared.now ≡ relations setting.il.now }
+    requires same { directions.now.il.now ≡ setting.index.now }
     requires depth { 1 ≤ setting.depth }
-    ensures solved { IsSolved setting.entry.il.now setting.entry.depth setting.entry.depth
+    ensures solved { IsSolved setting.entry.index.now setting.entry.depth setting.entry.depth
         (goal_of relation.now inputs.now) result }
     ensures sorted { IfOk result (λ found. AreSorted found.items) }
 {
@@ -142,9 +140,34 @@ fn solve_with(
         setting,
         algos,
         directions,
-        relations: declared,
     };
     solve(alloc, &search, relation, inputs, setting.depth)
+}
+
+/// All that a relation of a language that is known derives from these inputs, each once, in the order
+/// of the values, with a derivation; at most so many calls may be open at once, and so many goals stand
+/// below each other. Or a chain of goals that leads to what is Deep.
+pub fn outputs_in<'a>(
+    alloc: Global,
+    language: &'a SearchedLanguage<'a>,
+    relation: &Name,
+    input: &[Value],
+    depth: u32,
+) -> Result<Outputs, SearchFault>
+    requires relation { HasMark language.now false relation.now None }
+    requires plain { HasNoOtherwise language.now relation.now }
+    requires input { AreInputs language.now relation.now input.now }
+    requires depth { 1 ≤ depth }
+    ensures { IsAnswer language.now depth (goal_of relation.now input.now) result }
+{
+    let setting = Setting {
+        index: &language.index,
+        types: language.types,
+        depth,
+    };
+    let algos = language.algos;
+    let found = solve_with(alloc, setting, algos, &language.directions, relation, input)?;
+    Ok(Outputs { found: found.items })
 }
 
 /// All that a relation derives from these inputs, each once, in the order of the values, with a
@@ -166,17 +189,6 @@ pub fn outputs<'a>(
     requires depth { 1 ≤ depth }
     ensures { IsAnswer il.now depth (goal_of relation.now input.now) result }
 {
-    let directions = directions_of(alloc, il)?;
-    let relations = relations_of(alloc, il)?;
-    let setting = Setting { il, types, depth };
-    let found = solve_with(
-        alloc,
-        setting,
-        algos,
-        &directions,
-        relations.as_slice(),
-        relation,
-        input,
-    )?;
-    Ok(Outputs { found: found.items })
+    let language = searched_language(alloc, il, types, algos)?;
+    outputs_in(alloc, &language, relation, input, depth)
 }

@@ -7,8 +7,8 @@ ghost use Rattle.st_semantics.specs.Calls.{ValueAt};
 ghost use Rattle.st_search.specs.inner.Search.{IsSearch};
 
 use st_algo::Algos;
-use st_eval::{Setting, call, value};
-use st_il::{Env, IlExp, RelationDef, Value};
+use st_eval::{Setting, call_in, value_in};
+use st_il::{Env, IlExp, Value};
 use st_match::Caller;
 use st_num::{Name, NoMemory, Row};
 use st_order::Directions;
@@ -22,8 +22,6 @@ pub(crate) struct Search<'a> {
     pub(crate) setting: Setting<'a>,
     pub(crate) algos: &'a Algos,
     pub(crate) directions: &'a Directions<'a>,
-    /// In the order of the source.
-    pub(crate) relations: &'a [&'a RelationDef],
 }
 
 /// The functions of a language.
@@ -38,16 +36,16 @@ impl Caller for Functions<'_> {
     ghost use Rattle.st_eval.specs.Evaluable.{IsEvaluable};
 
     ghost answers = { λ functions fun args outcome.
-        CallAt functions.setting.il.now functions.setting.depth fun args outcome };
+        CallAt functions.setting.index.now functions.setting.depth fun args outcome };
 
     ghost IsCallable = { λ functions.
-        IsEvaluable functions.setting.il.now functions.setting.types.now };
+        IsEvaluable functions.setting.index.now functions.setting.types.now };
 
     fn call(&self, fun: &Name, args: Row<Value>) -> Result<Outcome, NoMemory> {
         let setting = self.setting;
-        call(
+        call_in(
             self.alloc,
-            setting.il,
+            setting.index,
             setting.types,
             setting.depth,
             fun,
@@ -64,11 +62,11 @@ pub(crate) fn outcome_of(
     exp: &IlExp,
 ) -> Result<Outcome, NoMemory>
     requires search { IsSearch search.now }
-    requires formed { IsFormed (syntaxes search.now.setting.il.now) exp.now }
+    requires formed { IsFormed (syntaxes search.now.setting.index.now) exp.now }
     ensures { IfOk result (λ outcome.
-        ValueAt search.now.setting.il.now search.now.setting.depth env.now exp.now outcome) }
+        ValueAt search.now.setting.index.now search.now.setting.depth env.now exp.now outcome) }
 {
     let setting = search.setting;
-    let outcome = value(alloc, setting.il, setting.types, setting.depth, env, exp)?;
+    let outcome = value_in(alloc, setting.index, setting.types, setting.depth, env, exp)?;
     Ok(outcome)
 }

@@ -44,17 +44,17 @@ pub(crate) fn matched(
     inputs: &[Value],
 ) -> Result<Row<Partial>, Stop>
     requires search { IsSearch search.now }
-    requires rule { CanBeRun search.now.setting.il.now rule.now }
-    requires inputs { ins.now ≡ inputs_of_rule search.now.setting.il.now rule.now }
+    requires rule { CanBeRun search.now.setting.index.now rule.now }
+    requires inputs { ins.now ≡ inputs_of_rule search.now.setting.index.now rule.now }
     requires ordered { (order : List ℕ)
-        × (order_of search.now.setting.il.now rule.now ≡ Ok order) }
+        × (order_of search.now.setting.index.now rule.now ≡ Ok order) }
     ensures found { IfOk result (λ starts. (g : Goal) (number : ℕ) → g.inputs ≡ inputs.now
-        → Finds search.now.setting.il.now search.now.setting.depth 0
-        (run_seeks search.now.setting.il.now search.now.setting.depth g number rule.now [])
+        → Finds search.now.setting.index.now search.now.setting.depth 0
+        (run_seeks search.now.setting.index.now search.now.setting.depth g number rule.now [])
         starts) }
-    ensures quiet { OnOk result (HasDeepHole search.now.setting.il.now search.now.setting.depth
+    ensures quiet { OnOk result (HasDeepHole search.now.setting.index.now search.now.setting.depth
         no_variables evaluated.Closed ins.now → ⊥) }
-    ensures stops { IfErr result (λ stop. StopsIf (HasDeepHole search.now.setting.il.now
+    ensures stops { IfErr result (λ stop. StopsIf (HasDeepHole search.now.setting.index.now
         search.now.setting.depth no_variables evaluated.Closed ins.now) stop) }
 {
     let holes = holes_of(alloc, search, Evaluated::Closed, &[], ins)?;

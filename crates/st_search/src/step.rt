@@ -136,20 +136,20 @@ pub(crate) fn run_step<'a, F: Finder>(
     requires search { IsSearch search.now }
     requires callable { F.IsCallable finder.now }
     requires can { (bound : List Name) × (p : IlPrem)
-        × HasOnly search.now.setting.il.now variables.now bound (scope_env scope.now)
-        × IsRunBy search.now.setting.il.now bound variables.now p step.now }
-    ensures short { IfOk result (λ found. IsShort search.now.setting.il.now
+        × HasOnly search.now.setting.index.now variables.now bound (scope_env scope.now)
+        × IsRunBy search.now.setting.index.now bound variables.now p step.now }
+    ensures short { IfOk result (λ found. IsShort search.now.setting.index.now
         search.now.setting.depth (F.answers finder.now) found.longest) }
-    ensures found { IfOk result (λ found. FindsWhere search.now.setting.il.now
+    ensures found { IfOk result (λ found. FindsWhere search.now.setting.index.now
         search.now.setting.depth (F.answers finder.now) variables.now (scope_env scope.now)
-        (λ bound p. IsRunBy search.now.setting.il.now bound variables.now p step.now) found) }
-    ensures binds { IfOk result (λ found. BindsWhere search.now.setting.il.now variables.now
+        (λ bound p. IsRunBy search.now.setting.index.now bound variables.now p step.now) found) }
+    ensures binds { IfOk result (λ found. BindsWhere search.now.setting.index.now variables.now
         (scope_env scope.now)
-        (λ bound p. IsRunBy search.now.setting.il.now bound variables.now p step.now)
+        (λ bound p. IsRunBy search.now.setting.index.now bound variables.now p step.now)
         found.items) }
-    ensures stops { IfErr result (λ stop. StopsWhere search.now.setting.il.now
+    ensures stops { IfErr result (λ stop. StopsWhere search.now.setting.index.now
         search.now.setting.depth (F.answers finder.now) variables.now (scope_env scope.now)
-        (λ bound p. IsRunBy search.now.setting.il.now bound variables.now p step.now) stop) }
+        (λ bound p. IsRunBy search.now.setting.index.now bound variables.now p step.now) stop) }
 {
     match step {
         AlgoStep::Test(exp) => {
@@ -191,21 +191,21 @@ fn run_loop<'a, F: Finder>(
     requires search { IsSearch search.now }
     requires callable { F.IsCallable finder.now }
     requires can { (bound : List Name) × (p : IlPrem) × (inner : IlPrem)
-        × HasOnly search.now.setting.il.now variables.now bound (scope_env scope.now)
-        × IsLoopOf search.now.setting.il.now bound variables.now p how.now names.now inner
+        × HasOnly search.now.setting.index.now variables.now bound (scope_env scope.now)
+        × IsLoopOf search.now.setting.index.now bound variables.now p how.now names.now inner
         body.now }
-    ensures short { IfOk result (λ found. IsShort search.now.setting.il.now
+    ensures short { IfOk result (λ found. IsShort search.now.setting.index.now
         search.now.setting.depth (F.answers finder.now) found.longest) }
-    ensures found { IfOk result (λ found. FindsWhere search.now.setting.il.now
+    ensures found { IfOk result (λ found. FindsWhere search.now.setting.index.now
         search.now.setting.depth (F.answers finder.now) variables.now (scope_env scope.now)
-        (λ bound p. (inner : IlPrem) × IsLoopOf search.now.setting.il.now bound variables.now p
+        (λ bound p. (inner : IlPrem) × IsLoopOf search.now.setting.index.now bound variables.now p
         how.now names.now inner body.now) found) }
-    ensures binds { IfOk result (λ found. BindsWhere search.now.setting.il.now variables.now
-        (scope_env scope.now) (λ bound p. (inner : IlPrem) × IsLoopOf search.now.setting.il.now
+    ensures binds { IfOk result (λ found. BindsWhere search.now.setting.index.now variables.now
+        (scope_env scope.now) (λ bound p. (inner : IlPrem) × IsLoopOf search.now.setting.index.now
         bound variables.now p how.now names.now inner body.now) found.items) }
-    ensures stops { IfErr result (λ stop. StopsWhere search.now.setting.il.now
+    ensures stops { IfErr result (λ stop. StopsWhere search.now.setting.index.now
         search.now.setting.depth (F.answers finder.now) variables.now (scope_env scope.now)
-        (λ bound p. (inner : IlPrem) × IsLoopOf search.now.setting.il.now bound variables.now p
+        (λ bound p. (inner : IlPrem) × IsLoopOf search.now.setting.index.now bound variables.now p
         how.now names.now inner body.now) stop) }
 {
     let setting = search.setting;
@@ -264,28 +264,28 @@ fn walk<'a, F: Finder>(
     requires search { IsSearch search.now }
     requires callable { F.IsCallable finder.now }
     requires can { (bound : List Name) × (p : IlPrem)
-        × (size < 2 ^ 128 → AllHaveOnly search.now.setting.il.now variables.now bound
+        × (size < 2 ^ 128 → AllHaveOnly search.now.setting.index.now variables.now bound
         (rows (index_of how.now) (names_now names.now) (entries_of scope.now) size 0
         (columns_now columns.now)))
-        × IsRunBy search.now.setting.il.now bound variables.now p body.now }
+        × IsRunBy search.now.setting.index.now bound variables.now p body.now }
     ensures small { size < 2 ^ 128 }
-    ensures short { IfOk result (λ found. IsShort search.now.setting.il.now
+    ensures short { IfOk result (λ found. IsShort search.now.setting.index.now
         search.now.setting.depth (F.answers finder.now) found.longest) }
-    ensures found { IfOk result (λ found. FindsAtAll search.now.setting.il.now
+    ensures found { IfOk result (λ found. FindsAtAll search.now.setting.index.now
         search.now.setting.depth (F.answers finder.now) variables.now
         (rows (index_of how.now) (names_now names.now) (entries_of scope.now) size 0
         (columns_now columns.now))
-        (λ bound p. IsRunBy search.now.setting.il.now bound variables.now p body.now) found) }
-    ensures binds { IfOk result (λ found. BindsAtAll search.now.setting.il.now variables.now
+        (λ bound p. IsRunBy search.now.setting.index.now bound variables.now p body.now) found) }
+    ensures binds { IfOk result (λ found. BindsAtAll search.now.setting.index.now variables.now
         (rows (index_of how.now) (names_now names.now) (entries_of scope.now) size 0
         (columns_now columns.now))
-        (λ bound p. IsRunBy search.now.setting.il.now bound variables.now p body.now)
+        (λ bound p. IsRunBy search.now.setting.index.now bound variables.now p body.now)
         found.items) }
-    ensures stops { IfErr result (λ stop. StopsAtAll search.now.setting.il.now
+    ensures stops { IfErr result (λ stop. StopsAtAll search.now.setting.index.now
         search.now.setting.depth (F.answers finder.now) variables.now
         (rows (index_of how.now) (names_now names.now) (entries_of scope.now) size 0
         (columns_now columns.now))
-        (λ bound p. IsRunBy search.now.setting.il.now bound variables.now p body.now) stop) }
+        (λ bound p. IsRunBy search.now.setting.index.now bound variables.now p body.now) stop) }
 {
     let mut walks = no_element(alloc)?;
     let mut longest = 0;

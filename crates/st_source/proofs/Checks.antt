@@ -12,12 +12,7 @@ use Rattle.st_elab_def.specs.declared.breach.Breach.{Breach}
 use Rattle.st_elab_def.specs.declared.elaborated.Elaborated.{Elaborated}
 use Rattle.st_elab_def.specs.Breaches.{IsBreach}
 use Rattle.st_elab_def.specs.Elaboration.{IsElaborated}
-use Rattle.st_elab_def.specs.Erasing.{ErasesTo}
 use Rattle.st_elab_def.proofs.IsBreach.{IsBreach-within}
-use Rattle.st_ilcheck.specs.Typed.{Typed}
-use Rattle.st_modes.specs.declared.fault.ModeFault.{ModeFault}
-use Rattle.st_order.specs.declared.relation_modes.Modes.{Modes}
-use Rattle.st_modes.specs.Modes.{IsModesAnswer}
 use Rattle.st_semantics.specs.Breaches.{IsModeBreach}
 use Rattle.st_source.proofs.breach_places.Definitions.{DefStands}
 use Rattle.st_source.proofs.breach_places.Law.{IsBefore, definitions-stand, breaches-stand}

@@ -1,6 +1,6 @@
 -- What the premises of a clause come to that are met one after another, and what a call comes to by
--- clauses that are tried.
-use Rattle.std.specs.Prelude.{◌≡◌, ℕ, List, [], ◌++◌, ◌⊎◌, Option, Some, None}
+-- a clause that is tried.
+use Rattle.std.specs.Prelude.{◌≡◌, ℕ, List, [], ◌⊎◌, Option, Some, None}
 use Rattle.st_il.specs.declared.definition.ClauseDef.{ClauseDef}
 use Rattle.st_il.specs.declared.definition.Il.{Il}
 use Rattle.st_il.specs.declared.expression.IlPrem.{IlPrem}
@@ -8,7 +8,7 @@ use Rattle.st_il.specs.declared.value.Env.{Env}
 use Rattle.st_il.specs.declared.value.Value.{Value}
 use Rattle.st_semantics.specs.declared.outcome.Outcome.{Outcome}
 use Rattle.st_semantics.specs.declared.outcome.Outcome.TheVariants.{Deep}
-use Rattle.st_semantics.specs.Calls.{Chosen, TooDeep, Decides, CallAt, ValueAt}
+use Rattle.st_semantics.specs.Calls.{Chosen, TooDeep, CallAt, ValueAt}
 use Rattle.st_semantics.specs.ModeRules.{bound_in_clause}
 use Rattle.st_eval.specs.Steps.{HasOnly, IsMetUpTo, IsPassedOver}
 use Rattle.st_eval.specs.declared.condition.Met.{Met}
@@ -33,11 +33,3 @@ IsTried il n c vs None = IsPassedOver il n c vs
 IsTried il n c vs (Some o) =
     ((env : Env) × Chosen il (CallAt il n) c vs env × ValueAt il n env c.result o)
     ⊎ (TooDeep il (CallAt il n) c vs × (o ≡ Deep))
-
--- some clauses leave the call to those behind them, or decide it with this outcome
-abbrev pub AreTried : Il → ℕ → List ClauseDef → List Value → Option Outcome → Type 0
-AreTried il n cs vs None =
-    (rest : List ClauseDef) (o : Outcome) → Decides il (CallAt il n) rest vs o
-    → Decides il (CallAt il n) (cs ++ rest) vs o
-AreTried il n cs vs (Some o) =
-    (rest : List ClauseDef) → Decides il (CallAt il n) (cs ++ rest) vs o

@@ -2,7 +2,7 @@
 use Rattle.std.specs.Prelude.{◌≡◌, ℕ, ◌≤◌, false, List, [], ◌∷◌, ◌++◌, length, All, None}
 use Rattle.st_il.specs.declared.definition.Il.{Il}
 use Rattle.st_search.specs.Answers.{goal_of, AreOutputs, IsChainOf}
-use Rattle.st_search.specs.Searchable.{IsSearchable, HasNoOtherwise}
+use Rattle.st_search.specs.Searchable.{HasNoOtherwise}
 use Rattle.st_il.specs.Names.{Name}
 use Rattle.st_semantics.specs.Derivation.{Derivable}
 use Rattle.st_semantics.specs.Goals.{AreInputs}
@@ -19,11 +19,10 @@ use Rattle.st_runs.specs.declared.transcript.Ending.TheVariants.{Stuck, Fuel}
 use Rattle.st_runs.specs.Runs.{IsShallow, Reaches, AreOutputsOf}
 use Rattle.st_runs.specs.RunTexts.{ending_line, term_lines, deep_text}
 
--- the relation can be searched by these algorithms, to this depth
+-- the relation of the language can be searched, to this depth
 pub record CanSearch (s : Searching) : Type 0 where
-  pub language : IsSearchable s.il.now s.types.now s.algos.now
-  pub relation : HasMark s.il.now false s.relation.now None
-  pub plain : HasNoOtherwise s.il.now s.relation.now
+  pub relation : HasMark s.language.now false s.relation.now None
+  pub plain : HasNoOtherwise s.language.now s.relation.now
   pub depth : 1 ≤ s.depth
 
 -- what is derivable from a term has a value for each input of the relation, of its type

@@ -8,7 +8,7 @@ use Rattle.st_il.specs.declared.tree.Child.{Child}
 use Rattle.st_il.specs.declared.value.Env.{Env}
 use Rattle.st_il.specs.declared.value.Value.{Value}
 use Rattle.st_il.specs.Names.{Name}
-use Rattle.st_il.specs.Definitions.{relations, relation_named, rules_of}
+use Rattle.st_il.specs.Definitions.{relation_named, rules_of}
 use Rattle.st_semantics.specs.Directions.{direction}
 use Rattle.st_semantics.specs.Environments.{AgreeOn}
 use Rattle.st_semantics.specs.Evaluation.{tasks}
@@ -58,13 +58,6 @@ CanBeSearched il relation =
 pub record IsSearchedIn (il : Il) (p : IlPrem) : Type 0 where
   pub cited : All (CanBeSearched il) (relations_cited p)
   pub plain : has_otherwise p ≡ false
-
--- The relation of a number, which is the first of its name.
-pub record IsFirstRelation (il : Il) (number : ℕ) (name : Name) : Type 0 where
-  pub declared : RelationDef
-  pub is : slice_get (relations il) number ≡ Some declared
-  pub found : relation_named il name ≡ Some declared
-  pub named : declared.name ≡ name
 
 -- the algorithm of a rule, both by their numbers
 abbrev pub algorithm_at : Algos → ℕ → ℕ → Option Algorithm

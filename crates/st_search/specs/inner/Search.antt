@@ -4,10 +4,9 @@ use Rattle.std.specs.List.{AllByRecursion}
 use Rattle.st_il.specs.declared.definition.Il.{Il}
 use Rattle.st_il.specs.declared.value.Value.{Value}
 use Rattle.st_il.specs.Names.{Name}
-use Rattle.st_il.specs.Definitions.{relations}
 use Rattle.st_semantics.specs.Derivation.{Derivable}
 use Rattle.st_semantics.specs.Goals.{Goal, IsGoal}
-use Rattle.st_order.specs.Known.{AreDirections, all_now}
+use Rattle.st_order.specs.Known.{AreDirections}
 use Rattle.st_search.specs.declared.answer.Output.{Output}
 use Rattle.st_search.specs.declared.answer.SearchFault.{SearchFault}
 use Rattle.st_search.specs.declared.answer.SearchFault.TheVariants as fault
@@ -21,10 +20,9 @@ use Rattle.st_search.specs.inner.Rules.{CanBeSearched}
 
 -- the language can be searched, and what is kept of it is right
 pub record IsSearch (s : Search) : Type 0 where
-  pub searchable : IsSearchable s.setting.il.now s.setting.types.now s.algos.now
+  pub searchable : IsSearchable s.setting.index.now s.setting.types.now s.algos.now
   pub directions : AreDirections s.directions.now
-  pub same : s.directions.now.il.now ≡ s.setting.il.now
-  pub relations : all_now s.relations.now ≡ relations s.setting.il.now
+  pub same : s.directions.now.il.now ≡ s.setting.index.now
 
 -- All outputs of a goal, and how far goals lead from it.
 pub record Solves (il : Il) (n : ℕ) (g : Goal) (found : Found Output) : Type 0 where

@@ -13,15 +13,15 @@ use Rattle.st_eval.proofs.each.value_known.Goals as goal
 
 pub returns-then-not-bound : goal.returns-then-not-bound
 returns-then-not-bound g c =
-    let defs = syntaxes c.args.setting.now.il.now in
-    let C = CallAt c.args.setting.now.il.now c.args.setting.now.depth in
+    let defs = syntaxes c.args.setting.now.index.now in
+    let C = CallAt c.args.setting.now.index.now c.args.setting.now.depth in
     subst (λ z. GivesAll defs C (tasks (scope_env c.args.scope.now) (bound_one (names_now c.args.known.now) c.args.exp.now)) (Values z)) (sym c.new.ensures)
     (bound_one-unknown defs C (names_now c.args.known.now) (scope_env c.args.scope.now) c.args.exp.now (sym c.in_ok-bound.ensures ∙ c.if-not-bound.true))
 
 pub returns : goal.returns
 returns g c =
-    let defs = syntaxes c.args.setting.now.il.now in
-    let C = CallAt c.args.setting.now.il.now c.args.setting.now.depth in
+    let defs = syntaxes c.args.setting.now.index.now in
+    let C = CallAt c.args.setting.now.index.now c.args.setting.now.depth in
     subst (GivesAll defs C (tasks (scope_env c.args.scope.now) (bound_one (names_now c.args.known.now) c.args.exp.now))) (sym c.in_ok-outcomes.ensures)
     (bound_one-known defs C (names_now c.args.known.now) (scope_env c.args.scope.now) c.args.exp.now c.in_ok-env.env c.in_ok-outcome.outcome
     (sym c.in_ok-bound.ensures ∙ c.if-not-bound.false) (entries_among-agrees (scope_env c.args.scope.now) c.in_ok-env.env (vars c.args.exp.now) c.in_ok-env.ensures) c.in_ok-outcome.ensures)

@@ -17,4 +17,4 @@ decreases-at_elements g l = 1 + prem_height l.body.now
 
 abbrev pub invariant-at_elements-loop-at : goal.invariant-at_elements-loop-at
 invariant-at_elements-loop-at g l =
-    ArePassed l.setting.il.now l.setting.depth l.variables l.body (index_of l.how) (names_now l.names) (entries_of l.scope) (columns_now l.columns) l.size l.at l.found
+    ArePassed l.setting.index.now l.setting.depth l.variables l.body (index_of l.how) (names_now l.names) (entries_of l.scope) (columns_now l.columns) l.size l.at l.found

@@ -11,5 +11,5 @@ value-requires-clause-formed g c = subst (λ z. IsFormed z c.args.exp.now) (sym 
 
 pub returns : goal.returns
 returns g c =
-    Gives-by (syntaxes c.args.setting.now.il.now) (g.C.Caller.answers c.args.caller.now) (CallAt c.args.setting.now.il.now c.args.setting.now.depth) c.requires.answers.answers
+    Gives-by (syntaxes c.args.setting.now.index.now) (g.C.Caller.answers c.args.caller.now) (CallAt c.args.setting.now.index.now c.args.setting.now.depth) c.requires.answers.answers
     (subst (λ z. Gives z (g.C.Caller.answers c.args.caller.now) c.args.env.now c.args.exp.now c.in_ok-outcome.outcome) c.requires.setting.types_are c.in_ok-outcome.ensures)

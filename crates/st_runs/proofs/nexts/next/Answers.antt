@@ -9,13 +9,13 @@ pub returns-in-Outputs : goal.returns-in-Outputs
 returns-in-Outputs c =
     let s = c.args.searching.now in
     let term = c.args.term.now in
-    let has : SearchesTo s.il.now s.relation.now s.depth term (searched.Outputs c.in-Outputs.outputs) = subst (SearchesTo s.il.now s.relation.now s.depth term) c.in-Outputs.is c.in_ok-outputs.ensures in
-    says_outputs s.il.now s.relation.now s.depth term c.as_slice.result.now c.listed.result c.meaning_of_rules.ensures.trees has.0
-    (subst (AreOutputs s.il.now s.depth (goal_of s.relation.now term)) (sym c.as_slice.ensures) has.1) c.requires.typed c.listed.ensures.status c.listed.ensures.bytes
+    let has : SearchesTo s.language.now s.relation.now s.depth term (searched.Outputs c.in-Outputs.outputs) = subst (SearchesTo s.language.now s.relation.now s.depth term) c.in-Outputs.is c.in_ok-outputs.ensures in
+    says_outputs s.language.now s.relation.now s.depth term c.as_slice.result.now c.listed.result c.meaning_of_rules.ensures.trees has.0
+    (subst (AreOutputs s.language.now s.depth (goal_of s.relation.now term)) (sym c.as_slice.ensures) has.1) c.requires.typed c.listed.ensures.status c.listed.ensures.bytes
 
 pub returns-in-Deep : goal.returns-in-Deep
 returns-in-Deep c =
     let s = c.args.searching.now in
     let term = c.args.term.now in
-    let has : SearchesTo s.il.now s.relation.now s.depth term (searched.Deep c.in-Deep.chain) = subst (SearchesTo s.il.now s.relation.now s.depth term) c.in-Deep.is c.in_ok-outputs.ensures in
-    says_deep s.il.now s.relation.now s.depth term c.in-Deep.chain c.new.result.items c.deep.result c.new.ensures.items has c.deep.ensures.status c.deep.ensures.bytes
+    let has : SearchesTo s.language.now s.relation.now s.depth term (searched.Deep c.in-Deep.chain) = subst (SearchesTo s.language.now s.relation.now s.depth term) c.in-Deep.is c.in_ok-outputs.ensures in
+    says_deep s.language.now s.relation.now s.depth term c.in-Deep.chain c.new.result.items c.deep.result c.new.ensures.items has c.deep.ensures.status c.deep.ensures.bytes

@@ -3,4 +3,4 @@ use Rattle.st_search.proofs.SomeGives.{AreValued}
 use Rattle.st_search.proofs.conclude.each_value.Given as goal
 
 abbrev pub invariant-loop-exp : goal.invariant-loop-exp
-invariant-loop-exp l = AreValued l.search.setting.il.now l.search.setting.depth l.env (take l.exp-index l.exps) l.whole l.values
+invariant-loop-exp l = AreValued l.search.setting.index.now l.search.setting.depth l.env (take l.exp-index l.exps) l.whole l.values

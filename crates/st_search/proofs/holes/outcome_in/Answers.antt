@@ -8,5 +8,5 @@ use Rattle.st_search.proofs.holes.outcome_in.Goals as goal
 
 pub returns : goal.returns
 returns c =
-    Gives-agree (syntaxes c.args.search.now.setting.il.now) (CallAt c.args.search.now.setting.il.now c.args.search.now.setting.depth) c.in_ok-outcome.ensures (scope_env c.args.scope.now)
+    Gives-agree (syntaxes c.args.search.now.setting.index.now) (CallAt c.args.search.now.setting.index.now c.args.search.now.setting.depth) c.in_ok-outcome.ensures (scope_env c.args.scope.now)
     (entries_among-agrees (scope_env c.args.scope.now) c.in_ok-env.env (vars c.args.exp.now) c.in_ok-env.ensures)

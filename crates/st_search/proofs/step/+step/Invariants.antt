@@ -18,5 +18,5 @@ decreases-walk g l = 1 + step_height l.body.now
 
 abbrev pub invariant-walk-loop-at : goal.invariant-walk-loop-at
 invariant-walk-loop-at g l =
-    AreWalked l.search.setting.il.now l.search.setting.depth (g.F.Finder.answers l.finder) l.variables (λ bound p. IsRunBy l.search.setting.il.now bound l.variables p l.body) (index_of l.how) (names_now l.names) (entries_of l.scope)
+    AreWalked l.search.setting.index.now l.search.setting.depth (g.F.Finder.answers l.finder) l.variables (λ bound p. IsRunBy l.search.setting.index.now bound l.variables p l.body) (index_of l.how) (names_now l.names) (entries_of l.scope)
     (columns_now l.columns) l.size l.at l.longest l.walks
