@@ -57,6 +57,15 @@ fn print_alternatives(alternatives: &[Notation], out: &mut Vec<u8>) -> Result<()
     Ok(())
 }
 
+/// Appends a declared field: its name and its type.
+fn print_field(field: &(Name, Typ), out: &mut Vec<u8>) -> Result<(), NoMemory>
+    ensures { OnOk result
+        (out.new.items ≡ out.old.items ++ field_text (declared_field field.now)) }
+{
+    print_atom(field.0.as_slice(), out)?;
+    print_typ(&field.1, out)
+}
+
 /// Appends declared fields with commas between them.
 fn print_listed_fields(fields: &[(Name, Typ)], out: &mut Vec<u8>) -> Result<(), NoMemory>
     ensures { OnOk result (out.new.items ≡ out.old.items
@@ -65,12 +74,10 @@ fn print_listed_fields(fields: &[(Name, Typ)], out: &mut Vec<u8>) -> Result<(), 
     let Some((first, others)) = fields.split_first() else {
         return Ok(());
     };
-    print_atom(first.0.as_slice(), out)?;
-    print_typ(&first.1, out)?;
+    print_field(first, out)?;
     for field in others {
         print_token(b",", out)?;
-        print_atom(field.0.as_slice(), out)?;
-        print_typ(&field.1, out)?;
+        print_field(field, out)?;
     }
     Ok(())
 }

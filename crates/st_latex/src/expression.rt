@@ -3,7 +3,7 @@
 ghost use Rattle.std.specs.Prelude.{◌≡◌, ◌++◌, OnOk, map, codes};
 ghost use Rattle.st_el.specs.SourceText.{separated};
 ghost use Rattle.st_latex.specs.Tokens.{token};
-ghost use Rattle.st_latex.specs.Parts.{behind, enclosed, joined, tuple, arguments, change, position, range, record_text, latex_exp, latex_node, latex_count, latex_seg, latex_field};
+ghost use Rattle.st_latex.specs.Parts.{behind, enclosed, joined, tuple, arguments, position, field_text, record_text, latex_exp, latex_node, latex_count, latex_seg, latex_field};
 
 use crate::token::{
     print_atom, print_dotted, print_function, print_number, print_sign, print_text, print_token,
@@ -56,15 +56,18 @@ fn print_node(node: &Node, out: &mut Vec<u8>) -> Result<(), NoMemory>
         }
         Node::Slice(e, from, length) => {
             print_exp(e.get(), out)?;
-            print_range(from.get(), length.get(), out)
+            print_behind(b"[", from.get(), out)?;
+            print_enclosed(b":", length.get(), b"]", out)
         }
         Node::Update(e, path, part) => {
             print_exp(e.get(), out)?;
-            print_change(path.as_slice(), b"=", part.get(), out)
+            print_path(path.as_slice(), out)?;
+            print_enclosed(b"=", part.get(), b"]", out)
         }
         Node::Extend(e, path, part) => {
             print_exp(e.get(), out)?;
-            print_change(path.as_slice(), b"\\mathrel{=\\oplus}", part.get(), out)
+            print_path(path.as_slice(), out)?;
+            print_enclosed(b"\\mathrel{=\\oplus}", part.get(), b"]", out)
         }
         Node::Len(e) => print_enclosed(b"|", e.get(), b"|", out),
         Node::Call(name, args) => {
@@ -109,16 +112,6 @@ fn print_position(at: &Exp, out: &mut Vec<u8>) -> Result<(), NoMemory>
     ensures { OnOk result (out.new.items ≡ out.old.items ++ position (latex_exp at.now)) }
 {
     print_enclosed(b"[", at, b"]", out)
-}
-
-/// Appends a position and a length, in brackets.
-#[cycle(print_exp)]
-fn print_range(from: &Exp, length: &Exp, out: &mut Vec<u8>) -> Result<(), NoMemory>
-    ensures { OnOk result (out.new.items
-        ≡ out.old.items ++ range (latex_exp from.now) (latex_exp length.now)) }
-{
-    print_behind(b"[", from, out)?;
-    print_enclosed(b":", length, b"]", out)
 }
 
 /// Appends a sign and the expression behind it.
@@ -200,32 +193,30 @@ fn print_listed_fields(fields: &[(Name, Exp)], out: &mut Vec<u8>) -> Result<(), 
     let Some((first, others)) = fields.split_first() else {
         return Ok(());
     };
-    print_atom(first.0.as_slice(), out)?;
-    print_exp(&first.1, out)?;
+    print_field(first, out)?;
     for field in others {
         print_token(b",", out)?;
-        print_atom(field.0.as_slice(), out)?;
-        print_exp(&field.1, out)?;
+        print_field(field, out)?;
     }
     Ok(())
 }
 
-/// Appends a path and the part at it, in the brackets of a change with this sign.
+/// Appends a field of a record: its name and its expression.
 #[cycle(print_exp)]
-fn print_change(path: &[Seg], written: &[u8], part: &Exp, out: &mut Vec<u8>) -> Result<(), NoMemory>
-    ensures { OnOk result (out.new.items ≡ out.old.items
-        ++ change (map latex_seg path.now) written.now (latex_exp part.now)) }
+fn print_field(field: &(Name, Exp), out: &mut Vec<u8>) -> Result<(), NoMemory>
+    ensures { OnOk result (out.new.items ≡ out.old.items ++ field_text (latex_field field.now)) }
 {
-    print_token(b"[", out)?;
-    print_path(path, out)?;
-    print_enclosed(written, part, b"]", out)
+    print_atom(field.0.as_slice(), out)?;
+    print_exp(&field.1, out)
 }
 
-/// Appends the steps of a path.
+/// Appends the front of the brackets of a change, up to the end of the path.
 #[cycle(print_exp)]
 fn print_path(path: &[Seg], out: &mut Vec<u8>) -> Result<(), NoMemory>
-    ensures { OnOk result (out.new.items ≡ out.old.items ++ joined (map latex_seg path.now)) }
+    ensures { OnOk result (out.new.items
+        ≡ out.old.items ++ (token (codes "[") ++ joined (map latex_seg path.now))) }
 {
+    print_token(b"[", out)?;
     for seg in path {
         print_seg(seg, out)?;
     }
@@ -240,7 +231,10 @@ fn print_seg(seg: &Seg, out: &mut Vec<u8>) -> Result<(), NoMemory>
     match seg {
         Seg::Field(name) => print_dotted(name.as_slice(), out),
         Seg::At(at) => print_position(at, out),
-        Seg::Slice(from, length) => print_range(from, length, out),
+        Seg::Slice(from, length) => {
+            print_behind(b"[", from, out)?;
+            print_enclosed(b":", length, b"]", out)
+        }
     }
 }
 
