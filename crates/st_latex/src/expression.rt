@@ -6,8 +6,8 @@ ghost use Rattle.st_latex.specs.Tokens.{token};
 ghost use Rattle.st_latex.specs.Parts.{behind, enclosed, joined, tuple, arguments, position, field_text, record_text, latex_exp, latex_node, latex_count, latex_seg, latex_field};
 
 use crate::token::{
-    print_atom, print_dotted, print_function, print_number, print_sign, print_text, print_token,
-    print_truth, print_variable, sign_text,
+    print_atom, print_dotted, print_function, print_number, print_text, print_token, print_truth,
+    print_variable, sign_text,
 };
 use st_el::{Count, Exp, Node, Seg};
 use st_num::{Mark, Name, NoMemory};

@@ -1,14 +1,36 @@
 use Rattle.st_el.specs.declared.expression.Count.TheFolds.{the_lemmas}
 use borrow.Author.Tests.{tests}
-use Rattle.std.proofs.Common.{rules, arith}
+use Rattle.std.proofs.Common.{rules, ◌≡◌, ℕ, List, ◌++◌, map, ap, sym, ◌∙◌, subst, OnOk}
 use Rattle.std.proofs.lemmas.Grind.{common_steps}
+use Rattle.st_latex.specs.Parts.{record_text, latex_field}
+use Rattle.st_latex.proofs.Nodes.{node-Fields}
 use Rattle.st_latex.proofs.expression.+print_exp.Goals as goal
+
+pub print_node-returns-in_ok-print_exp-in-Infix : goal.print_node-returns-in_ok-print_exp-in-Infix
+print_node-returns-in_ok-print_exp-in-Infix t c = search (tests, rules, the_lemmas, common_steps)
+
+pub print_node-returns-in-Fields : goal.print_node-returns-in-Fields
+print_node-returns-in-Fields t c =
+    let P : List ℕ → Type 0 = λ text. OnOk c.print_fields.result (c.print_fields.new.out.items ≡ c.args.out.now.items ++ text) in
+    subst P (ap (λ fields. record_text (map latex_field fields)) c.as_slice-in-Fields.ensures ∙ sym (node-Fields c.args.node.now c.in-Fields.fields c.in-Fields.is)) c.print_fields.ensures
 
 pub print_node-returns-in_ok-print_exp-in-Dot : goal.print_node-returns-in_ok-print_exp-in-Dot
 print_node-returns-in_ok-print_exp-in-Dot t c = search (tests, rules, the_lemmas, common_steps)
 
-pub print_node-returns-in_ok-print_exp-in-Infix : goal.print_node-returns-in_ok-print_exp-in-Infix
-print_node-returns-in_ok-print_exp-in-Infix t c = grind (rules, the_lemmas, common_steps)
+pub print_node-returns-in_ok-print_exp-in-At : goal.print_node-returns-in_ok-print_exp-in-At
+print_node-returns-in_ok-print_exp-in-At t c = search (tests, rules, the_lemmas, common_steps)
+
+pub print_node-returns-in_ok-print_behind-in-Slice : goal.print_node-returns-in_ok-print_behind-in-Slice
+print_node-returns-in_ok-print_behind-in-Slice t c = search (tests, rules, the_lemmas, common_steps)
+
+pub print_node-returns-in_ok-print_path-in-Update : goal.print_node-returns-in_ok-print_path-in-Update
+print_node-returns-in_ok-print_path-in-Update t c = search (tests, rules, the_lemmas, common_steps)
+
+pub print_node-returns-in_ok-print_path-in-Extend : goal.print_node-returns-in_ok-print_path-in-Extend
+print_node-returns-in_ok-print_path-in-Extend t c = search (tests, rules, the_lemmas, common_steps)
+
+pub print_node-returns-in_ok-print_function-in-Call : goal.print_node-returns-in_ok-print_function-in-Call
+print_node-returns-in_ok-print_function-in-Call t c = search (tests, rules, the_lemmas, common_steps)
 
 pub print_node-returns-in_ok-print_exp-in-Iter : goal.print_node-returns-in_ok-print_exp-in-Iter
-print_node-returns-in_ok-print_exp-in-Iter t c = ?
+print_node-returns-in_ok-print_exp-in-Iter t c = search (tests, rules, the_lemmas, common_steps)
