@@ -2,7 +2,7 @@
 
 ghost use Rattle.std.specs.Prelude.{◌≡◌, ◌++◌, OnOk, map, codes};
 ghost use Rattle.st_el.specs.SourceText.{separated};
-ghost use Rattle.st_latex.specs.Tokens.{token};
+ghost use Rattle.st_latex.specs.Tokens.{token, atom};
 ghost use Rattle.st_latex.specs.Parts.{behind, enclosed, joined, tuple, arguments, position, field_text, record_text, latex_exp, latex_node, latex_count, latex_seg, latex_field};
 
 use crate::token::{
@@ -193,21 +193,23 @@ fn print_listed_fields(fields: &[(Name, Exp)], out: &mut Vec<u8>) -> Result<(), 
     let Some((first, others)) = fields.split_first() else {
         return Ok(());
     };
-    print_field(first, out)?;
+    print_atom(first.0.as_slice(), out)?;
+    print_exp(&first.1, out)?;
     for field in others {
-        print_token(b",", out)?;
-        print_field(field, out)?;
+        print_next_field(&field.0, &field.1, out)?;
     }
     Ok(())
 }
 
-/// Appends a field of a record: its name and its expression.
+/// Appends a comma and the field behind it.
 #[cycle(print_exp)]
-fn print_field(field: &(Name, Exp), out: &mut Vec<u8>) -> Result<(), NoMemory>
-    ensures { OnOk result (out.new.items ≡ out.old.items ++ field_text (latex_field field.now)) }
+fn print_next_field(name: &Name, exp: &Exp, out: &mut Vec<u8>) -> Result<(), NoMemory>
+    ensures { OnOk result (out.new.items
+        ≡ out.old.items ++ (token (codes ",") ++ (atom name.now ++ latex_exp exp.now))) }
 {
-    print_atom(field.0.as_slice(), out)?;
-    print_exp(&field.1, out)
+    print_token(b",", out)?;
+    print_atom(name.as_slice(), out)?;
+    print_exp(exp, out)
 }
 
 /// Appends the front of the brackets of a change, up to the end of the path.

@@ -27,7 +27,8 @@ pub print_node-returns-in_ok-print_path-in-Update : goal.print_node-returns-in_o
 print_node-returns-in_ok-print_path-in-Update t c = search (tests, rules, the_lemmas, common_steps)
 
 pub print_node-returns-in_ok-print_path-in-Extend : goal.print_node-returns-in_ok-print_path-in-Extend
-print_node-returns-in_ok-print_path-in-Extend t c = search (tests, rules, the_lemmas, common_steps)
+print_node-returns-in_ok-print_path-in-Extend t c =
+    first_of (search (tests, rules, the_lemmas, common_steps) fits 6000, grind (rules, the_lemmas, common_steps))
 
 pub print_node-returns-in_ok-print_function-in-Call : goal.print_node-returns-in_ok-print_function-in-Call
 print_node-returns-in_ok-print_function-in-Call t c = search (tests, rules, the_lemmas, common_steps)
