@@ -1,1 +1,2 @@
+mod FieldTexts
 mod Nodes
