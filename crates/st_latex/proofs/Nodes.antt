@@ -7,7 +7,8 @@ use Rattle.st_el.specs.declared.expression.Node.TheVariants as v
 use Rattle.st_el.specs.declared.expression.Count.{Count}
 use Rattle.st_el.specs.declared.expression.Count.TheOpen.{Node-F}
 use Rattle.st_el.specs.declared.expression.Seg.{Seg}
-use Rattle.st_latex.specs.Tokens.{token}
+use Rattle.st_num.specs.declared.mark.Mark.TheVariants.{ExtendBy}
+use Rattle.st_latex.specs.Tokens.{token, sign_text}
 use Rattle.st_latex.specs.Parts.{enclosed, position, change, record_text, count_at, node_at, seg_at, exp_at, latex_exp, latex_node, latex_count, latex_seg, latex_field}
 
 -- a level with the tokens of its parts
@@ -30,11 +31,11 @@ node-Fields node fields is = node-opened node _ (ap out-Node is ∙ v.outs-Field
 
 -- how the sign of an extension is written
 abbrev pub extending : List ℕ
-extending = codes "\\mathrel{=\\oplus}"
+extending = sign_text ExtendBy
 
 -- an expression with another one behind the list at a path
 abbrev pub extended : Exp → List Seg → Exp → List ℕ
-extended e path part = latex_exp e ++ change (map latex_seg path) extending (latex_exp part)
+extended e path part = latex_exp e ++ change (map latex_seg path) ExtendBy (latex_exp part)
 
 pub node-Extend :
     (node : Node) (e : Exp) (path : List Seg) (part : Exp) → node ≡ v.Extend e path part → latex_node node ≡ extended e path part

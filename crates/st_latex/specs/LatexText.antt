@@ -10,8 +10,8 @@ use Rattle.st_el.specs.declared.definition.DefNode.{DefNode}
 use Rattle.st_el.specs.declared.definition.DefNode.TheVariants.{Syntax, Var, Relation, Rule, Fun, Clause}
 use Rattle.st_el.specs.declared.definition.Body.{Body}
 use Rattle.st_el.specs.declared.definition.Body.TheVariants.{Alias, Cases, Fields}
-use Rattle.st_latex.specs.Tokens.{token, variable, atom, label, function}
-use Rattle.st_latex.specs.Parts.{enclosed, arguments, latex_typ, latex_notation, latex_exp, latex_prem, record_text}
+use Rattle.st_latex.specs.Tokens.{token, variable, label, function}
+use Rattle.st_latex.specs.Parts.{arguments, latex_typ, latex_notation, latex_exp, latex_prem, record_text}
 
 -- what stands before the first alternative: dots and a bar, or a bar where there are several
 abbrev pub leading : Bool → List Notation → List ℕ

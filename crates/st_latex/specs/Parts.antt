@@ -3,7 +3,7 @@ use Rattle.std.specs.Prelude.{ℕ, List, [], ◌∷◌, ◌++◌, map, flat_map,
 use Rattle.std.specs.Fmt.{decimal}
 use Rattle.st_num.specs.Signs.{closing}
 use Rattle.st_num.specs.declared.mark.Mark.{Mark}
-use Rattle.st_num.specs.declared.mark.Mark.TheVariants.{Caret}
+use Rattle.st_num.specs.declared.mark.Mark.TheVariants.{Caret, Tilde, Minus, Equal, ExtendBy}
 use Rattle.st_el.specs.SourceText.{separated}
 use Rattle.st_el.specs.declared.expression.Exp.{Exp, Exp-F, fold-Exp}
 use Rattle.st_el.specs.declared.expression.Node.{Node, fold-Node}
@@ -123,8 +123,8 @@ seg_at (Seg-F.Seg::At at) = position at
 seg_at (Seg-F.Seg::Slice from length) = range from length
 
 -- a path and the part at it, in the brackets of an update or an extension
-abbrev pub change : List (List ℕ) → List ℕ → List ℕ → List ℕ
-change path written part = position (joined path ++ token written ++ part)
+abbrev pub change : List (List ℕ) → Mark → List ℕ → List ℕ
+change path mark part = position (joined path ++ sign mark ++ part)
 
 -- a field of a record: its name and its expression
 abbrev pub field_text : List ℕ × List ℕ → List ℕ
@@ -146,8 +146,8 @@ node_at Node-F.Eps = token (codes "\\epsilon")
 node_at (Node-F.Seq parts) = joined parts
 node_at (Node-F.Infix left mark right) = sides left mark right
 node_at (Node-F.Binary left mark right) = sides left mark right
-node_at (Node-F.Not e) = token (codes "\\neg") ++ e
-node_at (Node-F.Neg e) = token (codes "-") ++ e
+node_at (Node-F.Not e) = sign Tilde ++ e
+node_at (Node-F.Neg e) = sign Minus ++ e
 node_at (Node-F.Arith e) = enclosed (codes "(") e (codes ")")
 node_at (Node-F.Paren e) = enclosed (codes "(") e (codes ")")
 node_at (Node-F.Bracket opening e) = bracketed opening e
@@ -156,8 +156,8 @@ node_at (Node-F.Fields fields) = record_text fields
 node_at (Node-F.Dot e name) = e ++ dotted name
 node_at (Node-F.Node::At e at) = e ++ position at
 node_at (Node-F.Node::Slice e from length) = e ++ range from length
-node_at (Node-F.Update e path part) = e ++ change path (codes "=") part
-node_at (Node-F.Extend e path part) = e ++ change path (codes "\\mathrel{=\\oplus}") part
+node_at (Node-F.Update e path part) = e ++ change path Equal part
+node_at (Node-F.Extend e path part) = e ++ change path ExtendBy part
 node_at (Node-F.Len e) = enclosed (codes "|") e (codes "|")
 node_at (Node-F.Call name parts) = function name ++ arguments parts
 node_at (Node-F.Iter e count) = e ++ count
