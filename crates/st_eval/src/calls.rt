@@ -21,10 +21,10 @@ use std::alloc::Global;
 /// What a call comes to with these arguments, over a language that is known. Where no call may be open,
 /// it is Deep; else the first clause of its function that is chosen or meets Deep decides it, with one
 /// call less for those in it.
-pub fn call_in<'a>(
+pub fn call_in(
     alloc: Global,
-    index: &'a Index<'a>,
-    types: &'a TypeTable,
+    index: &Index<'_>,
+    types: &TypeTable,
     depth: u32,
     fun: &Name,
     args: &[Value],
@@ -56,10 +56,10 @@ pub fn call_in<'a>(
 /// What an expression comes to in an environment, over a language that is known. Each record in it has
 /// the fields of its type, and each absent part is of a list or an option, as in every expression that
 /// has a type.
-pub fn value_in<'a>(
+pub fn value_in(
     alloc: Global,
-    index: &'a Index<'a>,
-    types: &'a TypeTable,
+    index: &Index<'_>,
+    types: &TypeTable,
     depth: u32,
     env: &Env,
     exp: &IlExp,
