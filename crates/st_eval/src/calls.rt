@@ -18,9 +18,9 @@ use st_semantics::Outcome;
 use st_types::TypeTable;
 use std::alloc::Global;
 
-/// What a call comes to with these arguments, over a language that is known. Where no call may be open,
-/// it is Deep; else the first clause of its function that is chosen or meets Deep decides it, with one
-/// call less for those in it.
+/// What a call comes to with these arguments, over a language that is known. Where no call may be
+/// open, it is Deep; else the first clause of its function that is chosen or meets Deep decides it,
+/// with one call less for those in it.
 pub fn call_in(
     alloc: Global,
     index: &Index<'_>,
@@ -53,9 +53,9 @@ pub fn call_in(
     Ok(outcome)
 }
 
-/// What an expression comes to in an environment, over a language that is known. Each record in it has
-/// the fields of its type, and each absent part is of a list or an option, as in every expression that
-/// has a type.
+/// What an expression comes to in an environment, over a language that is known. Each record in it
+/// has the fields of its type, and each absent part is of a list or an option, as in every
+/// expression that has a type.
 pub fn value_in(
     alloc: Global,
     index: &Index<'_>,

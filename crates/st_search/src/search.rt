@@ -149,9 +149,9 @@ fn solve_with(
     solve(alloc, &search, relation, inputs, depth)
 }
 
-/// All that a relation of a language that is known derives from these inputs, each once, in the order
-/// of the values, with a derivation; at most so many calls may be open at once, and so many goals stand
-/// below each other. Or a chain of goals that leads to what is Deep.
+/// All that a relation of a language that is known derives from these inputs, each once, in the
+/// order of the values, with a derivation; at most so many calls may be open at once, and so many
+/// goals stand below each other. Or a chain of goals that leads to what is Deep.
 pub fn outputs_in(
     alloc: Global,
     language: &SearchedLanguage<'_>,
