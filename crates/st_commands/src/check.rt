@@ -4,10 +4,9 @@ ghost use Rattle.std.specs.Prelude.{◌≡◌, ◌≤◌, length, All, IfOk};
 ghost use Rattle.st_iltext.specs.IlText.{il_text};
 ghost use Rattle.st_latex.specs.LatexText.{latex_text};
 ghost use Rattle.st_order.specs.Modes.{HasFew, AreModes};
-ghost use Rattle.st_commands.specs.Checking.{Prints, FilesGive};
+ghost use Rattle.st_commands.specs.Checking.{Prints, FilesGive, definitions_text};
 ghost use Rattle.st_elab_def.specs.declared.elaborated.Elaborated.{Elaborated as Elaboration};
 ghost use Rattle.st_source.specs.Faults.{source_limit};
-ghost use Rattle.st_commands.specs.Checking.{definitions_text};
 
 use itoa::Buffer;
 use st_answers::{Answer, Status, groups_printed, orders_printed};

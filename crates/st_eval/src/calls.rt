@@ -1,6 +1,6 @@
 //! What calls and expressions come to, where so many calls may be open at once.
 //!
-//! `call_in` passes itself, one call less, to what tries the clauses of its function; nothing else
+//! `call_at` passes itself, one call less, to what tries the clauses of its function; nothing else
 //! recurses over calls. It goes by an index of the language, which `call` and `value` make.
 
 ghost use Rattle.std.specs.Prelude.{IfOk};
@@ -18,10 +18,8 @@ use st_semantics::Outcome;
 use st_types::TypeTable;
 use std::alloc::Global;
 
-/// What a call comes to with these arguments, over a language that is known. Where no call may be open,
-/// it is Deep; else the first clause of its function that is chosen or meets Deep decides it, with one
-/// call less for those in it.
-pub fn call_in<'a>(
+/// What a call comes to with these arguments, where all that is known has one lifetime.
+fn call_at<'a>(
     alloc: Global,
     index: &'a Index<'a>,
     types: &'a TypeTable,
@@ -46,17 +44,15 @@ pub fn call_in<'a>(
         &|inner: &Name, values: Row<Value>|
             requires { IsEvaluable index.now types.now }
             ensures { IfOk result (CallAt index.entry.now less inner.now values) }
-        { call_in(alloc, index, types, less, inner, values.as_slice()) },
+        { call_at(alloc, index, types, less, inner, values.as_slice()) },
         fun,
         args,
     )?;
     Ok(outcome)
 }
 
-/// What an expression comes to in an environment, over a language that is known. Each record in it has
-/// the fields of its type, and each absent part is of a list or an option, as in every expression that
-/// has a type.
-pub fn value_in<'a>(
+/// What an expression comes to in an environment, where all that is known has one lifetime.
+fn value_at<'a>(
     alloc: Global,
     index: &'a Index<'a>,
     types: &'a TypeTable,
@@ -79,11 +75,46 @@ pub fn value_in<'a>(
         &|inner: &Name, values: Row<Value>|
             requires { IsEvaluable index.now types.now }
             ensures { IfOk result (CallAt index.entry.now depth inner.now values) }
-        { call_in(alloc, index, types, depth, inner, values.as_slice()) },
+        { call_at(alloc, index, types, depth, inner, values.as_slice()) },
         env,
         exp,
     )?;
     Ok(outcome)
+}
+
+/// What a call comes to with these arguments, over a language that is known. Where no call may be
+/// open, it is Deep; else the first clause of its function that is chosen or meets Deep decides it,
+/// with one call less for those in it.
+pub fn call_in(
+    alloc: Global,
+    index: &Index<'_>,
+    types: &TypeTable,
+    depth: u32,
+    fun: &Name,
+    args: &[Value],
+) -> Result<Outcome, NoMemory>
+    requires { IsEvaluable index.now types.now }
+    ensures { IfOk result (CallAt index.now depth fun.now args.now) }
+{
+    call_at(alloc, index, types, depth, fun, args)
+}
+
+/// What an expression comes to in an environment, over a language that is known. Each record in it
+/// has the fields of its type, and each absent part is of a list or an option, as in every
+/// expression that has a type.
+pub fn value_in(
+    alloc: Global,
+    index: &Index<'_>,
+    types: &TypeTable,
+    depth: u32,
+    env: &Env,
+    exp: &IlExp,
+) -> Result<Outcome, NoMemory>
+    requires language { IsEvaluable index.now types.now }
+    requires formed { IsFormed (syntaxes index.now) exp.now }
+    ensures { IfOk result (ValueAt index.now depth env.now exp.now) }
+{
+    value_at(alloc, index, types, depth, env, exp)
 }
 
 /// What a call comes to with these arguments. Where no call may be open, it is Deep; else the first

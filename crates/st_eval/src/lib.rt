@@ -1,7 +1,7 @@
 //! What calls and expressions come to, where so many calls may be open at once.
 //!
-//! The clauses of a function, which an index of the language gives, are tried in their order, each from
-//! the values of its arguments on, premise by premise, by laws that are proved here.
+//! The clauses of a function, which an index of the language gives, are tried in their order,
+//! each from the values of its arguments on, premise by premise, by laws that are proved here.
 //!
 //! Read `calls` and `clause` first, with `specs/Steps.antt`; then `meet` and `condition`. What a call
 //! comes to is told by `Calls.antt` of `st_semantics`.

@@ -1,5 +1,5 @@
 -- The first of each name in a list: its number, and what is found there.
-use Rattle.std.proofs.Common.{◌≡◌, refl, sym, ap, ◌∙◌, subst, ℕ, zero, suc, ◌+◌, ◌<◌, ◌≤◌, Bool, true, false, true≢false, cond, not, if◌then◌else◌, List, [], ◌∷◌, take, length, slice_get, Option, Some, None, arith, add-one, bytes_eq}
+use Rattle.std.proofs.Common.{◌≡◌, refl, sym, ap, ◌∙◌, subst, ℕ, zero, suc, ◌+◌, ◌≤◌, Bool, true, false, true≢false, cond, not, if◌then◌else◌, List, [], ◌∷◌, take, length, slice_get, Option, Some, None, arith, add-one, bytes_eq}
 use Rattle.std.proofs.lemmas.Bool.{lt-ltb}
 use Rattle.std.proofs.Math.Dec.{leb-suc-suc}
 use Rattle.std.specs.Prelude.{nat_lt, position, find, is_some, MatchOption}
@@ -7,7 +7,7 @@ use Rattle.std.specs.Borrow.{Bor}
 use Rattle.std.specs.List.{position_or_len}
 use Rattle.std.specs.Option.{option_map}
 use Rattle.st_il.specs.Names.{Name}
-use Rattle.st_index.specs.Names.{all_now, at}
+use Rattle.st_index.specs.Names.{at}
 use Rattle.st_index.specs.Numbers.{IsFirstNamed}
 use Rattle.st_index.specs.inner.Listings.{adding, AreNumbers}
 use Rattle.st_index.proofs.InsertionLemmas.{same-equal}

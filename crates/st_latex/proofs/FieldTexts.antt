@@ -4,7 +4,8 @@ use Rattle.std.proofs.lemmas.Grind.{common_steps, flat_map-append}
 use Rattle.std.proofs.lemmas.List.{take_more, map-append}
 use Rattle.st_el.specs.declared.expression.Exp.{Exp}
 use Rattle.st_latex.specs.Tokens.{token, atom}
-use Rattle.st_latex.specs.Parts.{field_text, latex_exp, latex_field}
+use Rattle.st_latex.specs.Parts.{field_text}
+use Rattle.st_latex.specs.Expressions.{latex_exp, latex_field}
 
 -- ---- what two maps and a third make of one element more
 

@@ -9,7 +9,8 @@ use Rattle.st_el.specs.declared.expression.Count.TheOpen.{Node-F}
 use Rattle.st_el.specs.declared.expression.Seg.{Seg}
 use Rattle.st_num.specs.declared.mark.Mark.TheVariants.{ExtendBy}
 use Rattle.st_latex.specs.Tokens.{token, sign_text}
-use Rattle.st_latex.specs.Parts.{enclosed, position, change, record_text, count_at, node_at, seg_at, exp_at, latex_exp, latex_node, latex_count, latex_seg, latex_field}
+use Rattle.st_latex.specs.Parts.{enclosed, record_text}
+use Rattle.st_latex.specs.Expressions.{position, change, count_at, node_at, seg_at, exp_at, latex_exp, latex_node, latex_count, latex_seg, latex_field}
 
 -- a level with the tokens of its parts
 abbrev pub parts_printed : Node-F Count Node Seg Exp → Node-F (List ℕ) (List ℕ) (List ℕ) (List ℕ)

@@ -11,7 +11,10 @@ use Rattle.st_el.specs.declared.definition.DefNode.TheVariants.{Syntax, Var, Rel
 use Rattle.st_el.specs.declared.definition.Body.{Body}
 use Rattle.st_el.specs.declared.definition.Body.TheVariants.{Alias, Cases, Fields}
 use Rattle.st_latex.specs.Tokens.{token, variable, label, function}
-use Rattle.st_latex.specs.Parts.{arguments, latex_typ, latex_notation, latex_exp, latex_prem, record_text}
+use Rattle.st_latex.specs.Parts.{arguments, record_text}
+use Rattle.st_latex.specs.Types.{latex_typ, latex_notation}
+use Rattle.st_latex.specs.Expressions.{latex_exp}
+use Rattle.st_latex.specs.Premises.{latex_prem}
 
 -- what stands before the first alternative: dots and a bar, or a bar where there are several
 abbrev pub leading : Bool → List Notation → List ℕ
@@ -60,18 +63,30 @@ rule relation name conclusion premises =
 abbrev pub conditions : List Prem → List ℕ
 conditions premises = flat_map (λ prem. token (codes "--") ++ latex_prem prem) premises
 
+-- a syntax: its name, its fragment and its body
+abbrev pub syntax_text : List ℕ → Option (List ℕ) → Body → List ℕ
+syntax_text name fragment is =
+    variable name ++ fragment_text fragment ++ token (codes "=") ++ body is
+
+-- the declaration of a function: its name, its parameters and its result
+abbrev pub signature : List ℕ → List Typ → Typ → List ℕ
+signature name params result =
+    function name ++ arguments (map latex_typ params) ++ token (codes ":") ++ latex_typ result
+
+-- a clause of a function: its arguments, its result and its premises
+abbrev pub clause : List ℕ → List Exp → Exp → List Prem → List ℕ
+clause name args result premises =
+    function name ++ arguments (map latex_exp args) ++ token (codes "=") ++ latex_exp result
+    ++ conditions premises
+
 -- the tokens of a definition, without its hints and its first word
 abbrev pub def_node : DefNode → List ℕ
-def_node (Syntax name fragment is) =
-    variable name ++ fragment_text fragment ++ token (codes "=") ++ body is
+def_node (Syntax name fragment is) = syntax_text name fragment is
 def_node (Var name typ) = variable name ++ token (codes ":") ++ latex_typ typ
 def_node (Relation name notation) = label name ++ token (codes ":") ++ latex_notation notation
 def_node (Rule relation name conclusion premises) = rule relation name conclusion premises
-def_node (Fun name params result) =
-    function name ++ arguments (map latex_typ params) ++ token (codes ":") ++ latex_typ result
-def_node (Clause name args result premises) =
-    function name ++ arguments (map latex_exp args) ++ token (codes "=") ++ latex_exp result
-    ++ conditions premises
+def_node (Fun name params result) = signature name params result
+def_node (Clause name args result premises) = clause name args result premises
 
 -- a definition is one line of tokens between `\[` and `\]`
 abbrev pub line : Def → List ℕ

@@ -2,7 +2,13 @@
 
 -- how each token is written
 pub mod Tokens
--- the tokens of types, notations, expressions and premises, each a case of the tree
+-- how parts are put together
 pub mod Parts
+-- the tokens of types and notations, by what they are
+pub mod Types
+-- the tokens of expressions, by what they are
+pub mod Expressions
+-- the tokens of premises, by what they are
+pub mod Premises
 -- a definition is a line of tokens, and the text is these lines
 pub mod LatexText

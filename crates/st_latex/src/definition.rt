@@ -5,7 +5,7 @@ ghost use Rattle.std.specs.Option.{option_copied};
 ghost use Rattle.st_el.specs.SourceText.{separated};
 ghost use Rattle.st_latex.specs.Tokens.{token, label};
 ghost use Rattle.st_latex.specs.Parts.{field_text, record_text};
-ghost use Rattle.st_latex.specs.LatexText.{leading, trailing, alternatives_text, declared_field, body, fragment_text, full_name, rule, def_node};
+ghost use Rattle.st_latex.specs.LatexText.{leading, trailing, alternatives_text, declared_field, body, fragment_text, full_name, rule, syntax_text, signature, clause, def_node};
 
 use crate::expression::{print_arguments, print_exp};
 use crate::premise::{print_conditions, print_premises};
@@ -158,6 +158,56 @@ fn print_rule(
     print_full_name(relation, name, out)
 }
 
+/// Appends a syntax, as it stands behind its first word.
+fn print_syntax(
+    name: &Name,
+    fragment: &Option<Name>,
+    is: &Body,
+    out: &mut Vec<u8>,
+) -> Result<(), NoMemory>
+    ensures { OnOk result
+        (out.new.items ≡ out.old.items ++ syntax_text name.now fragment.now is.now) }
+{
+    print_variable(name.as_slice(), out)?;
+    print_fragment(fragment, out)?;
+    print_token(b"=", out)?;
+    print_body(is, out)
+}
+
+/// Appends the declaration of a function: its name, its parameters and what it gives.
+fn print_signature(
+    name: &Name,
+    params: &[Typ],
+    gives: &Typ,
+    out: &mut Vec<u8>,
+) -> Result<(), NoMemory>
+    ensures { OnOk result
+        (out.new.items ≡ out.old.items ++ signature name.now params.now gives.now) }
+{
+    print_function(name.as_slice(), out)?;
+    print_params(params, out)?;
+    print_token(b":", out)?;
+    print_typ(gives, out)
+}
+
+/// Appends a clause of a function: its arguments, what it gives and its premises.
+fn print_clause(
+    name: &Name,
+    args: &[Exp],
+    gives: &Exp,
+    premises: &[Prem],
+    out: &mut Vec<u8>,
+) -> Result<(), NoMemory>
+    ensures { OnOk result (out.new.items
+        ≡ out.old.items ++ clause name.now args.now gives.now premises.now) }
+{
+    print_function(name.as_slice(), out)?;
+    print_arguments(args, out)?;
+    print_token(b"=", out)?;
+    print_exp(gives, out)?;
+    print_conditions(premises, out)
+}
+
 /// Appends what a definition is.
 pub fn print_def_node(node: &DefNode, out: &mut Vec<u8>) -> Result<(), NoMemory>
     ensures { OnOk result (out.new.items ≡ out.old.items ++ def_node node.now) }
@@ -167,12 +217,7 @@ pub fn print_def_node(node: &DefNode, out: &mut Vec<u8>) -> Result<(), NoMemory>
             name,
             fragment,
             body,
-        } => {
-            print_variable(name.as_slice(), out)?;
-            print_fragment(fragment, out)?;
-            print_token(b"=", out)?;
-            print_body(body, out)
-        }
+        } => print_syntax(name, fragment, body, out),
         DefNode::Var { name, typ } => {
             print_variable(name.as_slice(), out)?;
             print_token(b":", out)?;
@@ -193,23 +238,12 @@ pub fn print_def_node(node: &DefNode, out: &mut Vec<u8>) -> Result<(), NoMemory>
             name,
             params,
             result,
-        } => {
-            print_function(name.as_slice(), out)?;
-            print_params(params.as_slice(), out)?;
-            print_token(b":", out)?;
-            print_typ(result, out)
-        }
+        } => print_signature(name, params.as_slice(), result, out),
         DefNode::Clause {
             name,
             args,
             result,
             premises,
-        } => {
-            print_function(name.as_slice(), out)?;
-            print_arguments(args.as_slice(), out)?;
-            print_token(b"=", out)?;
-            print_exp(result, out)?;
-            print_conditions(premises.as_slice(), out)
-        }
+        } => print_clause(name, args.as_slice(), result, premises.as_slice(), out),
     }
 }

@@ -2,8 +2,9 @@
 
 ghost use Rattle.std.specs.Prelude.{◌≡◌, ◌++◌, OnOk, map, codes};
 ghost use Rattle.st_el.specs.SourceText.{separated};
-ghost use Rattle.st_latex.specs.Tokens.{token, atom};
-ghost use Rattle.st_latex.specs.Parts.{behind, enclosed, joined, tuple, arguments, position, field_text, record_text, latex_exp, latex_node, latex_count, latex_seg, latex_field};
+ghost use Rattle.st_latex.specs.Tokens.{token, atom, dotted, function};
+ghost use Rattle.st_latex.specs.Parts.{behind, bracketed, enclosed, joined, tuple, arguments, field_text, record_text};
+ghost use Rattle.st_latex.specs.Expressions.{position, latex_exp, latex_node, latex_count, latex_seg, latex_field};
 
 use crate::token::{
     print_atom, print_dotted, print_function, print_number, print_text, print_token, print_truth,
@@ -40,16 +41,10 @@ fn print_node(node: &Node, out: &mut Vec<u8>) -> Result<(), NoMemory>
         Node::Not(e) => print_behind(b"\\neg", e.get(), out),
         Node::Neg(e) => print_behind(b"-", e.get(), out),
         Node::Arith(e) | Node::Paren(e) => print_enclosed(b"(", e.get(), b")", out),
-        Node::Bracket(opening, e) => {
-            let closing = sign_text(opening.closing());
-            print_enclosed(sign_text(*opening), e.get(), closing, out)
-        }
+        Node::Bracket(opening, e) => print_bracketed(*opening, e.get(), out),
         Node::Tuple(parts) => print_tuple(parts.as_slice(), out),
         Node::Fields(fields) => print_fields(fields.as_slice(), out),
-        Node::Dot(e, name) => {
-            print_exp(e.get(), out)?;
-            print_dotted(name.as_slice(), out)
-        }
+        Node::Dot(e, name) => print_dot(e.get(), name, out),
         Node::At(e, at) => {
             print_exp(e.get(), out)?;
             print_position(at.get(), out)
@@ -70,10 +65,7 @@ fn print_node(node: &Node, out: &mut Vec<u8>) -> Result<(), NoMemory>
             print_enclosed(b"\\mathrel{=\\oplus}", part.get(), b"]", out)
         }
         Node::Len(e) => print_enclosed(b"|", e.get(), b"|", out),
-        Node::Call(name, args) => {
-            print_function(name.as_slice(), out)?;
-            print_arguments(args.as_slice(), out)
-        }
+        Node::Call(name, args) => print_call(name, args.as_slice(), out),
         Node::Iter(e, count) => {
             print_exp(e.get(), out)?;
             print_count(count, out)
@@ -104,6 +96,36 @@ fn print_enclosed(
 {
     print_behind(opening, exp, out)?;
     print_token(closing, out)
+}
+
+/// Appends an expression in a backquoted bracket.
+#[cycle(print_exp)]
+fn print_bracketed(opening: Mark, exp: &Exp, out: &mut Vec<u8>) -> Result<(), NoMemory>
+    ensures { OnOk result
+        (out.new.items ≡ out.old.items ++ bracketed opening (latex_exp exp.now)) }
+{
+    let closing = sign_text(opening.closing());
+    print_enclosed(sign_text(opening), exp, closing, out)
+}
+
+/// Appends an expression and the field behind it.
+#[cycle(print_exp)]
+fn print_dot(exp: &Exp, name: &Name, out: &mut Vec<u8>) -> Result<(), NoMemory>
+    ensures { OnOk result
+        (out.new.items ≡ out.old.items ++ (latex_exp exp.now ++ dotted name.now)) }
+{
+    print_exp(exp, out)?;
+    print_dotted(name.as_slice(), out)
+}
+
+/// Appends a call of a function.
+#[cycle(print_exp)]
+fn print_call(name: &Name, args: &[Exp], out: &mut Vec<u8>) -> Result<(), NoMemory>
+    ensures { OnOk result (out.new.items
+        ≡ out.old.items ++ (function name.now ++ arguments (map latex_exp args.now))) }
+{
+    print_function(name.as_slice(), out)?;
+    print_arguments(args, out)
 }
 
 /// Appends a position in brackets.

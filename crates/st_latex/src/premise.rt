@@ -3,7 +3,7 @@
 ghost use Rattle.std.specs.Prelude.{◌≡◌, ◌++◌, OnOk, map, codes};
 ghost use Rattle.st_el.specs.SourceText.{separated};
 ghost use Rattle.st_latex.specs.Tokens.{token};
-ghost use Rattle.st_latex.specs.Parts.{latex_prem, latex_prem_node};
+ghost use Rattle.st_latex.specs.Premises.{latex_prem, latex_prem_node};
 ghost use Rattle.st_latex.specs.LatexText.{conditions};
 
 use crate::expression::{print_count, print_exp};

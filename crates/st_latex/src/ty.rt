@@ -3,7 +3,8 @@
 ghost use Rattle.std.specs.Prelude.{◌≡◌, ◌++◌, OnOk, map, codes};
 ghost use Rattle.st_el.specs.SourceText.{separated};
 ghost use Rattle.st_latex.specs.Tokens.{token};
-ghost use Rattle.st_latex.specs.Parts.{behind, joined, tuple, arguments, bracketed, latex_typ, latex_typ_node, latex_notation, latex_not_node};
+ghost use Rattle.st_latex.specs.Parts.{behind, joined, tuple, arguments, bracketed};
+ghost use Rattle.st_latex.specs.Types.{latex_typ, latex_typ_node, latex_notation, latex_not_node};
 
 use crate::token::{print_atom, print_sign, print_token, print_variable};
 use st_el::{NotNode, Notation, Typ, TypNode};

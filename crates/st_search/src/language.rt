@@ -12,8 +12,8 @@ use st_types::TypeTable;
 use std::alloc::Global;
 use std::marker::Model;
 
-/// A language that can be searched, with its types and algorithms, its names and the directions of its
-/// relations. Contracts see the internal language alone.
+/// A language that can be searched, with its types and algorithms, its names and the directions of
+/// its relations. Contracts see the internal language alone.
 #[derive(Drop)]
 pub struct SearchedLanguage<'a> {
     pub(crate) index: Index<'a>,

@@ -4,12 +4,12 @@
 //! recurses over goals.
 
 ghost use Rattle.std.specs.Prelude.{◌≡◌, ◌≤◌, ◌∷◌, [], false, None, IfOk};
-ghost use Rattle.st_order.specs.Known.{AreDirections};
 ghost use Rattle.st_semantics.specs.Goals.{AreInputs};
 ghost use Rattle.st_semantics.specs.Marks.{HasMark};
 ghost use Rattle.st_search.specs.Searchable.{IsSearchable, HasNoOtherwise};
 ghost use Rattle.st_search.specs.Answers.{goal_of, AreSorted, IsAnswer};
 ghost use Rattle.st_search.specs.inner.Chains.{led, fault_before};
+ghost use Rattle.st_search.specs.inner.Kept.{IsKept};
 ghost use Rattle.st_search.specs.inner.Search.{IsSearch, IsSolved};
 
 use crate::answer::{Chain, Output, Outputs, SearchFault};
@@ -20,6 +20,7 @@ use crate::setting::Search;
 use st_algo::Algos;
 use st_eval::Setting;
 use st_il::{Il, Value, copy_values};
+use st_index::Index;
 use st_num::{Name, NoMemory, Row};
 use st_order::Directions;
 use st_types::TypeTable;
@@ -120,36 +121,40 @@ fn solve(
 
 /// All that a relation derives from these inputs, where as many goals may stand below each other as
 /// calls may be open at once, and this is kept of the language.
-pub(crate) fn solve_with<'a>(
+fn solve_with(
     alloc: Global,
-    setting: Setting<'a>,
-    algos: &'a Algos,
-    directions: &'a Directions<'a>,
+    index: &Index<'_>,
+    types: &TypeTable,
+    algos: &Algos,
+    directions: &Directions<'_>,
     relation: &Name,
     inputs: &[Value],
+    depth: u32,
 ) -> Result<Found<Output>, SearchFault>
-    requires language { IsSearchable setting.index.now setting.types.now algos.now }
-    requires directions { AreDirections directions.now }
-    requires same { directions.now.il.now ≡ setting.index.now }
-    requires depth { 1 ≤ setting.depth }
-    ensures solved { IsSolved setting.entry.index.now setting.entry.depth setting.entry.depth
-        (goal_of relation.now inputs.now) result }
+    requires language { IsKept index.now types.now algos.now directions.now }
+    requires depth { 1 ≤ depth }
+    ensures solved { IsSolved index.now depth depth (goal_of relation.now inputs.now) result }
     ensures sorted { IfOk result (λ found. AreSorted found.items) }
 {
+    let setting = Setting {
+        index,
+        types,
+        depth,
+    };
     let search = Search {
         setting,
         algos,
         directions,
     };
-    solve(alloc, &search, relation, inputs, setting.depth)
+    solve(alloc, &search, relation, inputs, depth)
 }
 
-/// All that a relation of a language that is known derives from these inputs, each once, in the order
-/// of the values, with a derivation; at most so many calls may be open at once, and so many goals stand
-/// below each other. Or a chain of goals that leads to what is Deep.
-pub fn outputs_in<'a>(
+/// All that a relation of a language that is known derives from these inputs, each once, in the
+/// order of the values, with a derivation; at most so many calls may be open at once, and so many
+/// goals stand below each other. Or a chain of goals that leads to what is Deep.
+pub fn outputs_in(
     alloc: Global,
-    language: &'a SearchedLanguage<'a>,
+    language: &SearchedLanguage<'_>,
     relation: &Name,
     input: &[Value],
     depth: u32,
@@ -160,13 +165,16 @@ pub fn outputs_in<'a>(
     requires depth { 1 ≤ depth }
     ensures { IsAnswer language.now depth (goal_of relation.now input.now) result }
 {
-    let setting = Setting {
-        index: &language.index,
-        types: language.types,
+    let found = solve_with(
+        alloc,
+        &language.index,
+        language.types,
+        language.algos,
+        &language.directions,
+        relation,
+        input,
         depth,
-    };
-    let algos = language.algos;
-    let found = solve_with(alloc, setting, algos, &language.directions, relation, input)?;
+    )?;
     Ok(Outputs { found: found.items })
 }
 

@@ -9,8 +9,7 @@ ghost use Rattle.st_elab_def.specs.Elaboration.{IsElaborated};
 ghost use Rattle.st_elab_def.specs.Erasing.{ErasesTo};
 ghost use Rattle.st_elab_def.specs.Sources.{RepeatNoOtherwise};
 ghost use Rattle.st_ilcheck.specs.Typed.{Typed};
-ghost use Rattle.st_source.specs.Faults.{AllTokens, TellsFault};
-ghost use Rattle.st_source.specs.Faults.{source_limit};
+ghost use Rattle.st_source.specs.Faults.{AllTokens, TellsFault, source_limit};
 ghost use Rattle.st_source.specs.inner.Placing.{TellsSourceFault, BreachesWithin, BeginWithin};
 ghost use Rattle.st_source.specs.inner.Specifying.{RefusesSource, RefusesFiles, SpecifiesSource, Specifies};
 

@@ -1,6 +1,6 @@
 use Rattle.std.proofs.Common.{◌≡◌, ◌++◌, map, flat_map, take, codes}
 use Rattle.st_latex.specs.Tokens.{token}
-use Rattle.st_latex.specs.Parts.{latex_notation}
+use Rattle.st_latex.specs.Types.{latex_notation}
 use Rattle.st_latex.proofs.definition.print_alternatives.Given as goal
 
 abbrev pub invariant-loop-alternative : goal.invariant-loop-alternative

@@ -2,7 +2,8 @@ use Rattle.st_el.specs.declared.expression.Count.TheFolds.{the_lemmas}
 use borrow.Author.Tests.{tests}
 use Rattle.std.proofs.Common.{rules, ◌≡◌, ℕ, List, ◌++◌, map, ap, sym, ◌∙◌, subst, OnOk}
 use Rattle.std.proofs.lemmas.Grind.{common_steps}
-use Rattle.st_latex.specs.Parts.{joined, record_text, latex_exp, latex_seg, latex_field}
+use Rattle.st_latex.specs.Parts.{joined, record_text}
+use Rattle.st_latex.specs.Expressions.{latex_exp, latex_seg, latex_field}
 use Rattle.st_latex.proofs.Nodes.{node-Fields, node-Extend, change_end, extended, extending}
 use Rattle.st_latex.proofs.FieldTexts.{next_field}
 use Rattle.st_latex.proofs.expression.+print_exp.Goals as goal
@@ -14,9 +15,6 @@ pub print_node-returns-in-Fields : goal.print_node-returns-in-Fields
 print_node-returns-in-Fields t c =
     let P : List ℕ → Type 0 = λ text. OnOk c.print_fields.result (c.print_fields.new.out.items ≡ c.args.out.now.items ++ text) in
     subst P (ap (λ fields. record_text (map latex_field fields)) c.as_slice-in-Fields.ensures ∙ sym (node-Fields c.args.node.now c.in-Fields.fields c.in-Fields.is)) c.print_fields.ensures
-
-pub print_node-returns-in_ok-print_exp-in-Dot : goal.print_node-returns-in_ok-print_exp-in-Dot
-print_node-returns-in_ok-print_exp-in-Dot t c = search (tests, rules, the_lemmas, common_steps)
 
 pub print_node-returns-in_ok-print_exp-in-At : goal.print_node-returns-in_ok-print_exp-in-At
 print_node-returns-in_ok-print_exp-in-At t c = search (tests, rules, the_lemmas, common_steps)
@@ -35,9 +33,6 @@ print_node-returns-in_ok-print_path-in-Extend t c =
     ∙ ap (λ path. extended c.get-in-Extend.result.now path c.in-Extend.part) (sym c.as_slice-in-Extend.ensures)
     ∙ ap (λ part. extended c.get-in-Extend.result.now c.as_slice-in-Extend.result.now part) (sym c.get-in-Extend-2.ensures) in
     subst P (change_end _ _ _ (latex_exp c.get-in-Extend.result.now) (joined (map latex_seg c.as_slice-in-Extend.result.now)) extending (latex_exp c.get-in-Extend-2.result.now) _ c.in_ok-print_exp-in-Extend.ensures c.in_ok-print_path-in-Extend.ensures printed) c.print_enclosed-in-Extend.ensures
-
-pub print_node-returns-in_ok-print_function-in-Call : goal.print_node-returns-in_ok-print_function-in-Call
-print_node-returns-in_ok-print_function-in-Call t c = search (tests, rules, the_lemmas, common_steps)
 
 pub print_node-returns-in_ok-print_exp-in-Iter : goal.print_node-returns-in_ok-print_exp-in-Iter
 print_node-returns-in_ok-print_exp-in-Iter t c = search (tests, rules, the_lemmas, common_steps)

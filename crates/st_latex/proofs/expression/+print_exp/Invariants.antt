@@ -1,6 +1,7 @@
 use Rattle.std.proofs.Common.{◌≡◌, ◌++◌, map, flat_map, take, codes}
 use Rattle.st_latex.specs.Tokens.{token}
-use Rattle.st_latex.specs.Parts.{joined, field_text, latex_exp, latex_seg, latex_field}
+use Rattle.st_latex.specs.Parts.{joined, field_text}
+use Rattle.st_latex.specs.Expressions.{latex_exp, latex_seg, latex_field}
 use Rattle.st_latex.proofs.expression.+print_exp.Given as goal
 
 abbrev pub invariant-print_exps-loop-part : goal.invariant-print_exps-loop-part

@@ -1,6 +1,6 @@
 use Rattle.std.proofs.Common.{◌≡◌, ◌++◌, map, flat_map, take, codes}
 use Rattle.st_latex.specs.Tokens.{token}
-use Rattle.st_latex.specs.Parts.{latex_prem}
+use Rattle.st_latex.specs.Premises.{latex_prem}
 use Rattle.st_latex.proofs.premise.print_premises.Given as goal
 
 abbrev pub invariant-loop-prem : goal.invariant-loop-prem

@@ -1,6 +1,6 @@
 use Rattle.std.proofs.Common.{◌≡◌, ◌++◌, map, flat_map, take, codes}
 use Rattle.st_latex.specs.Tokens.{token}
-use Rattle.st_latex.specs.Parts.{latex_typ}
+use Rattle.st_latex.specs.Types.{latex_typ}
 use Rattle.st_latex.proofs.ty.+print_typ.Given as goal
 
 abbrev pub invariant-print_listed_typs-loop-typ : goal.invariant-print_listed_typs-loop-typ
