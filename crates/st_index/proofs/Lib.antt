@@ -1,0 +1,2 @@
+pub mod NamesIn
+pub mod InsertionLemmas
