@@ -1,0 +1,82 @@
+//! How expressions are printed: as the source has them.
+
+ghost use Rattle.std.specs.Prelude.{◌≡◌, ◌++◌, OnOk, map};
+ghost use Rattle.st_prose.specs.Sentences.{listed, exp_text, exps_text, mark_text};
+
+use st_el::print_el;
+use st_erase::erase_exp;
+use st_il::{Il, IlExp, Iteration, copy_iteration};
+use st_num::{Boxed, Name, NoMemory, Row};
+use std::alloc::Global;
+
+/// Appends a text as it is.
+pub(crate) fn print_word(word: &[u8], out: &mut Vec<u8>) -> Result<(), NoMemory>
+    ensures { OnOk result (out.new.items ≡ out.old.items ++ word.now) }
+{
+    out.extend_from_slice(word)?;
+    Ok(())
+}
+
+/// Appends names with commas between them.
+pub(crate) fn print_names(names: &[Name], out: &mut Vec<u8>) -> Result<(), NoMemory>
+    ensures { OnOk result (out.new.items ≡ out.old.items ++ listed names.now) }
+{
+    let Some((first, others)) = names.split_first() else {
+        return print_word(b"nothing", out);
+    };
+    print_word(first.as_slice(), out)?;
+    for name in others {
+        print_word(b", ", out)?;
+        print_word(name.as_slice(), out)?;
+    }
+    Ok(())
+}
+
+/// Appends an expression.
+pub(crate) fn print_exp(
+    alloc: Global,
+    il: &Il,
+    exp: &IlExp,
+    out: &mut Vec<u8>,
+) -> Result<(), NoMemory>
+    ensures { OnOk result (out.new.items ≡ out.old.items ++ exp_text il.now exp.now) }
+{
+    let source = erase_exp(alloc, il, exp)?;
+    print_el(alloc, &source, out)
+}
+
+/// Appends expressions with commas between them.
+pub(crate) fn print_exps(
+    alloc: Global,
+    il: &Il,
+    exps: &[IlExp],
+    out: &mut Vec<u8>,
+) -> Result<(), NoMemory>
+    ensures { OnOk result (out.new.items ≡ out.old.items ++ exps_text il.now exps.now) }
+{
+    let Some((first, others)) = exps.split_first() else {
+        return print_word(b"nothing", out);
+    };
+    print_exp(alloc, il, first, out)?;
+    for exp in others {
+        print_word(b", ", out)?;
+        print_exp(alloc, il, exp, out)?;
+    }
+    Ok(())
+}
+
+/// Appends how often a loop goes. That is what stands behind the body of an iteration, and so the
+/// whole text of one whose body is a name without letters.
+pub(crate) fn print_mark(
+    alloc: Global,
+    il: &Il,
+    how: &Iteration,
+    out: &mut Vec<u8>,
+) -> Result<(), NoMemory>
+    ensures { OnOk result (out.new.items ≡ out.old.items ++ mark_text il.now how.now) }
+{
+    let body = Boxed::new(alloc, IlExp::Var(Row::new(alloc)))?;
+    let how = copy_iteration(alloc, how)?;
+    let bare = IlExp::Iter(how, Row::new(alloc), body);
+    print_exp(alloc, il, &bare, out)
+}
