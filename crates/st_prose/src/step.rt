@@ -10,7 +10,7 @@ use crate::expression::{print_exp, print_exps, print_mark, print_names, print_wo
 use itoa::Buffer;
 use st_algo::AlgoStep;
 use st_il::{Il, IlExp, Iteration};
-use st_num::{Name, NoMemory};
+use st_num::{Name, NoMemory, Row};
 use std::alloc::Global;
 
 /// Appends a number in decimal digits.
@@ -42,7 +42,7 @@ fn print_all(
     alloc: Global,
     il: &Il,
     before: &[u8],
-    exps: &[IlExp],
+    exps: &Row<IlExp>,
     behind: &[u8],
     out: &mut Vec<u8>,
 ) -> Result<(), NoMemory>
@@ -50,7 +50,7 @@ fn print_all(
         ≡ out.old.items ++ (before.now ++ exps_text il.now exps.now ++ behind.now)) }
 {
     print_word(before, out)?;
-    print_exps(alloc, il, exps, out)?;
+    print_exps(alloc, il, exps.as_slice(), out)?;
     print_word(behind, out)
 }
 
@@ -83,17 +83,12 @@ fn print_relation(relation: &Name, out: &mut Vec<u8>) -> Result<(), NoMemory>
 }
 
 /// Appends the sentence of a step.
-fn print_step(
-    alloc: Global,
-    il: &Il,
-    step: &AlgoStep,
-    out: &mut Vec<u8>,
-) -> Result<(), NoMemory>
+fn print_step(alloc: Global, il: &Il, step: &AlgoStep, out: &mut Vec<u8>) -> Result<(), NoMemory>
     ensures { OnOk result (out.new.items ≡ out.old.items ++ sentence il.now step.now) }
 {
     match step {
         AlgoStep::Match(patterns) => {
-            print_all(alloc, il, b"Match the input with ", patterns.as_slice(), b".", out)
+            print_all(alloc, il, b"Match the input with ", patterns, b".", out)
         }
         AlgoStep::Test(condition) => print_one(alloc, il, b"Check that ", condition, b".", out),
         AlgoStep::Let(pattern, exp) => {
@@ -102,17 +97,15 @@ fn print_step(
         }
         AlgoStep::Goal(relation, inputs, outputs) => {
             print_relation(relation, out)?;
-            print_all(alloc, il, b" for ", inputs.as_slice(), b" and match it with ", out)?;
-            print_all(alloc, il, b"", outputs.as_slice(), b".", out)
+            print_all(alloc, il, b" for ", inputs, b" and match it with ", out)?;
+            print_all(alloc, il, b"", outputs, b".", out)
         }
         AlgoStep::Loop(how, names, inner) => {
             print_loop(alloc, il, how, names.as_slice(), out)?;
             print_step(alloc, il, inner.get(), out)
         }
         AlgoStep::Otherwise => print_word(b"Check that no earlier rule gives a result.", out),
-        AlgoStep::Give(results) => {
-            print_all(alloc, il, b"Give ", results.as_slice(), b".", out)
-        }
+        AlgoStep::Give(results) => { print_all(alloc, il, b"Give ", results, b".", out) }
     }
 }
 

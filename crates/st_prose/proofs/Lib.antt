@@ -1,0 +1,2 @@
+mod NumberedTexts
+mod BareIterations
