@@ -74,7 +74,7 @@ fn print_loop(
 }
 
 /// Appends the front of the sentence of a goal, before its inputs.
-fn print_relation(relation: &Name, out: &mut Vec<u8>) -> Result<(), NoMemory>
+fn print_goal(relation: &Name, out: &mut Vec<u8>) -> Result<(), NoMemory>
     ensures { OnOk result (out.new.items
         ≡ out.old.items ++ (codes "Find a result of " ++ relation.now)) }
 {
@@ -96,7 +96,7 @@ fn print_step(alloc: Global, il: &Il, step: &AlgoStep, out: &mut Vec<u8>) -> Res
             print_one(alloc, il, b"", pattern, b".", out)
         }
         AlgoStep::Goal(relation, inputs, outputs) => {
-            print_relation(relation, out)?;
+            print_goal(relation, out)?;
             print_all(alloc, il, b" for ", inputs, b" and match it with ", out)?;
             print_all(alloc, il, b"", outputs, b".", out)
         }
