@@ -1,22 +1,18 @@
 -- Names in sets and under which things stand, after one is added.
-use Rattle.std.proofs.Common.{◌≡◌, refl, sym, ap, ◌∙◌, subst, ℕ, Bool, true, false, true≢false, eqb, ◌||◌, if◌then◌else◌, Option, Some, List, [], ◌∷◌, ◌++◌}
+use Rattle.std.proofs.Common.{◌≡◌, refl, sym, ap, ◌∙◌, subst, ℕ, Bool, true, false, true≢false, eqb, bytes_eq, ◌||◌, if◌then◌else◌, Option, Some, List, [], ◌∷◌, ◌++◌}
 use Rattle.std.specs.Borrow.{Bor}
 use Rattle.std.specs.Cmp.Lexicographic.{pointwise}
 use Rattle.std.specs.List.{list_any}
-use Rattle.std.specs.Map.{lookup}
 use Rattle.std.proofs.lemmas.List.Folds.{list_any-append}
 use Rattle.std.proofs.lemmas.Slice.Eq.{bytes_eq-Decides}
 use Rattle.indexmap.specs.IndexMap.{insert_entry}
 use Rattle.indexmap.specs.IndexSet.{insert_key}
-use Rattle.st_num.specs.Names.{same_name}
+use Rattle.st_index.specs.Names.{at}
 
 -- ---- the same name
 
-pub same-equal : (p q : List ℕ) → same_name p q ≡ true → p ≡ q
+pub same-equal : (p q : List ℕ) → bytes_eq p q ≡ true → p ≡ q
 same-equal p q h = (bytes_eq-Decides p q).0 h
-
-pub same-refl : (p : List ℕ) → same_name p p ≡ true
-same-refl p = (bytes_eq-Decides p p).1 refl
 
 -- ---- tests of lists
 
@@ -58,19 +54,7 @@ any-insert eq test keys new x keeps n = by (list_any (eq x) keys) refl
     by false e =
         ap (list_any test) (n ∙ ap (λ c. if c then keys else keys ++ x ∷ []) e) ∙ any-more test keys x
 
--- ---- sets of names
-
-pub has-insert : (keys new : List (Bor (List ℕ))) (name : Bor (List ℕ)) → new ≡ insert_key (λ x y. pointwise eqb x.now y.now) keys name
-    → (q : List ℕ) → list_any (λ (key : Bor (List ℕ)). same_name q key.now) new ≡ (list_any (λ (key : Bor (List ℕ)). same_name q key.now) keys || same_name q name.now)
-has-insert keys new name n q =
-    any-insert (λ x y. pointwise eqb x.now y.now) (λ (key : Bor (List ℕ)). same_name q key.now) keys new name
-    (λ y same passes. subst (λ p. same_name q p ≡ true) (same-equal name.now y.now same) passes) n
-
 -- ---- things under names
-
--- what stands under a name
-abbrev pub under : {A : Type 0} → List (Bor (List ℕ) × A) → List ℕ → Option A
-under entries q = lookup (λ (key : Bor (List ℕ)). same_name q key.now) entries
 
 if-same : {A : Type 0} (b : Bool) (x y z : A) → (if b then x else (if b then y else z)) ≡ (if b then x else z)
 if-same true x y z = refl
@@ -86,23 +70,23 @@ module _ {A : Type 0} (name : Bor (List ℕ)) (value : A) (q : List ℕ) where
   put_in es = insert_entry (λ x y. pointwise eqb x.now y.now) es name value
 
   inserted-by : (e : Bor (List ℕ) × A) (es : List (Bor (List ℕ) × A)) (b : Bool) → pointwise eqb name.now e.0.now ≡ b
-      → under (put_in es) q ≡ (if same_name q name.now then Some value else under es q)
-      → under (put_in (e ∷ es)) q ≡ (if same_name q name.now then Some value else under (e ∷ es) q)
+      → at (put_in es) q ≡ (if bytes_eq q name.now then Some value else at es q)
+      → at (put_in (e ∷ es)) q ≡ (if bytes_eq q name.now then Some value else at (e ∷ es) q)
   inserted-by e es true h more =
-      ap (λ c. under (if c then (e.0, value) ∷ es else e ∷ put_in es) q) h
-      ∙ sym (if-same (same_name q e.0.now) (Some value) (Some e.1) (under es q))
-      ∙ ap (λ p. if same_name q p then Some value else under (e ∷ es) q) (sym (same-equal name.now e.0.now h))
+      ap (λ c. at (if c then (e.0, value) ∷ es else e ∷ put_in es) q) h
+      ∙ sym (if-same (bytes_eq q e.0.now) (Some value) (Some e.1) (at es q))
+      ∙ ap (λ p. if bytes_eq q p then Some value else at (e ∷ es) q) (sym (same-equal name.now e.0.now h))
   inserted-by e es false h more =
-      ap (λ c. under (if c then (e.0, value) ∷ es else e ∷ put_in es) q) h
-      ∙ ap (λ o. if same_name q e.0.now then Some e.1 else o) more
-      ∙ if-apart (same_name q e.0.now) (same_name q name.now) (Some e.1) (Some value) (under es q)
+      ap (λ c. at (if c then (e.0, value) ∷ es else e ∷ put_in es) q) h
+      ∙ ap (λ o. if bytes_eq q e.0.now then Some e.1 else o) more
+      ∙ if-apart (bytes_eq q e.0.now) (bytes_eq q name.now) (Some e.1) (Some value) (at es q)
       (λ one other. true≢false (sym (ap (λ p. pointwise eqb p e.0.now) (sym (same-equal q name.now other)) ∙ one) ∙ h))
 
-  inserted : (es : List (Bor (List ℕ) × A)) → under (put_in es) q ≡ (if same_name q name.now then Some value else under es q)
+  inserted : (es : List (Bor (List ℕ) × A)) → at (put_in es) q ≡ (if bytes_eq q name.now then Some value else at es q)
   inserted [] = refl
   inserted (e ∷ es) = inserted-by e es (pointwise eqb name.now e.0.now) refl (inserted es)
 
 pub under-insert : {A : Type 0} (entries new : List (Bor (List ℕ) × A)) (name : Bor (List ℕ)) (value : A)
     → new ≡ insert_entry (λ x y. pointwise eqb x.now y.now) entries name value
-    → (q : List ℕ) → under new q ≡ (if same_name q name.now then Some value else under entries q)
-under-insert entries new name value n q = ap (λ es. under es q) n ∙ inserted name value q entries
+    → (q : List ℕ) → at new q ≡ (if bytes_eq q name.now then Some value else at entries q)
+under-insert entries new name value n q = ap (λ es. at es q) n ∙ inserted name value q entries

@@ -54,11 +54,3 @@ keys-insert keys new name n q = by (list_any (λ (y : Bor (List ℕ)). pointwise
 pub SameNames-append : (xs ys more : List Name) → SameNames xs ys → SameNames (xs ++ more) (ys ++ more)
 SameNames-append xs ys more s q =
     has_name_append xs more q ∙ ap (λ z. z || has_name more q) (s q) ∙ sym (has_name_append ys more q)
-
--- one more is added to what some were added to
-pub SameNames-next : (old now new : List (Bor (List ℕ))) (before : List (Bor (List ℕ))) (name : Bor (List ℕ))
-    → SameNames (names_in now) (names_in old ++ names_in before) → SameNames (names_in new) (names_in now ++ name.now ∷ [])
-    → SameNames (names_in new) (names_in old ++ names_in (before ++ name ∷ []))
-SameNames-next old now new before name s t q =
-    t q ∙ SameNames-append (names_in now) (names_in old ++ names_in before) (name.now ∷ []) s q
-    ∙ ap (λ z. has_name z q) (append_assoc (names_in old) (names_in before) (name.now ∷ []) ∙ ap (λ z. names_in old ++ z) (sym (names_in_last before name)))

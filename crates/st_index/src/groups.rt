@@ -114,8 +114,8 @@ pub(crate) fn clauses_by_function(alloc: Global, il: &Il) -> Result<Groups<Claus
 pub(crate) fn members_of<'m, 'a, T>(groups: &'m Groups<'a, T>, name: &Name) -> &'m [&'a T]
     ensures { all_now result.now ≡ members groups.now.entries name.now }
 {
-    match at(groups, name) {
-        Some(row) => row.as_slice(),
-        None => &[],
-    }
+    let Some(row) = at(groups, name) else {
+        return &[];
+    };
+    row.as_slice()
 }

@@ -153,10 +153,10 @@ impl<'a> Index<'a> {
     pub fn rules_at(&self, number: usize) -> &[&'a RuleDef]
         ensures { all_now result.now ≡ rules_at self.now number }
     {
-        match self.relations().get(number) {
-            Some(relation) => self.rules_of(&relation.name),
-            None => &[],
-        }
+        let Some(relation) = self.relations().get(number) else {
+            return &[];
+        };
+        self.rules_of(&relation.name)
     }
 
     /// The rule of this number of the relation of a number.
@@ -177,9 +177,9 @@ impl<'a> Index<'a> {
     pub fn clauses_at(&self, number: usize) -> &[&'a ClauseDef]
         ensures { all_now result.now ≡ clauses_at self.now number }
     {
-        match self.functions().get(number) {
-            Some(function) => self.clauses_of(&function.name),
-            None => &[],
-        }
+        let Some(function) = self.functions().get(number) else {
+            return &[];
+        };
+        self.clauses_of(&function.name)
     }
 }

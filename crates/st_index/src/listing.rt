@@ -74,7 +74,7 @@ impl<'a, T: Named> Listing<'a, T> {
 
     /// These definitions, in their order. Several may have one name.
     pub(crate) fn of(alloc: Global, all: Row<&'a T>) -> Result<Listing<'a, T>, NoMemory>
-        ensures { IfOk result (λ listing. listing ≡ all_now all) }
+        ensures { IfOk result (λ listing. listing ≡ all_now all.entry) }
     {
         let numbers = numbers_of(alloc, all.as_slice())?;
         Ok(Listing { all, numbers })
