@@ -1,11 +1,13 @@
 -- The first of each name in a list: its number, and what is found there.
-use Rattle.std.proofs.Common.{◌≡◌, refl, sym, ap, ◌∙◌, subst, ℕ, zero, suc, ◌+◌, ◌<◌, ◌≤◌, Bool, true, false, true≢false, cond, not, if◌then◌else◌, List, [], ◌∷◌, take, length, slice_get, Option, Some, None, arith, add-one, bytes_eq}
+use Rattle.std.proofs.Common.{◌≡◌, refl, sym, ap, ◌∙◌, subst, ℕ, zero, suc, ◌+◌, ◌≤◌, Bool, true, false, true≢false, cond, not, if◌then◌else◌, List, [], ◌∷◌, take, length, slice_get, Option, Some, None, arith, add-one, bytes_eq}
+use Rattle.std.proofs.lemmas.Bool.{lt-ltb}
+use Rattle.std.proofs.Math.Dec.{leb-suc-suc}
 use Rattle.std.specs.Prelude.{nat_lt, position, find, is_some, MatchOption}
 use Rattle.std.specs.Borrow.{Bor}
 use Rattle.std.specs.List.{position_or_len}
 use Rattle.std.specs.Option.{option_map}
 use Rattle.st_il.specs.Names.{Name}
-use Rattle.st_index.specs.Names.{all_now, at}
+use Rattle.st_index.specs.Names.{at}
 use Rattle.st_index.specs.Numbers.{IsFirstNamed}
 use Rattle.st_index.specs.inner.Listings.{adding, AreNumbers}
 use Rattle.st_index.proofs.InsertionLemmas.{same-equal}
@@ -42,8 +44,12 @@ position-cons test x xs = by (test x)
 
     by : (b : Bool) → cond (nat_lt (cond (not b) (1 + position_or_len test xs) 0) (suc (length xs))) (Some (cond (not b) (1 + position_or_len test xs) 0)) None
         ≡ (if b then Some 0 else option_map suc (cond (nat_lt (position_or_len test xs) (length xs)) (Some (position_or_len test xs)) None))
-    by true = refl
-    by false = counted (nat_lt (position_or_len test xs) (length xs)) (position_or_len test xs)
+    by true = ap (λ c. cond c (Some 0) None) (lt-ltb 0 (suc (length xs)) (omega arith))
+    by false =
+        let more : 1 + position_or_len test xs ≡ suc (position_or_len test xs) = omega arith in
+        ap (λ n. cond (nat_lt n (suc (length xs))) (Some n) None) more
+        ∙ ap (λ c. cond c (Some (suc (position_or_len test xs))) None) (leb-suc-suc (suc (position_or_len test xs)) (length xs))
+        ∙ counted (nat_lt (position_or_len test xs) (length xs)) (position_or_len test xs)
 
 map-adding : (o : Option ℕ) (b : Bool) (k : ℕ) → option_map suc (adding o b k) ≡ adding (option_map suc o) b (suc k)
 map-adding (Some p) b k = refl

@@ -1,5 +1,5 @@
 -- Where a thing stands in a list, and what stands there.
-use Rattle.std.proofs.Common.{◌≡◌, refl, sym, ap, ◌∙◌, ℕ, zero, suc, ◌+◌, ◌<◌, ◌≤◌, Bool, true, false, true≢false, cond, List, [], ◌∷◌, ◌++◌, append_assoc, append-nil, take, drop, length, get_or, map, slice_get, Option, Some, None, arith, add-one}
+use Rattle.std.proofs.Common.{◌≡◌, refl, sym, ap, ◌∙◌, ℕ, zero, suc, ◌+◌, ◌<◌, ◌≤◌, false, true≢false, List, [], ◌∷◌, ◌++◌, append_assoc, append-nil, take, drop, length, get_or, map, slice_get, Option, Some, None, arith, add-one}
 use Rattle.std.specs.Prelude.{option_and_then, is_some}
 use Rattle.std.specs.Borrow.{Bor}
 use Rattle.std.specs.Option.{option_map, option_copied}

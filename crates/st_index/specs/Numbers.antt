@@ -1,5 +1,5 @@
 -- The definitions of an internal language by their numbers, and the first ones of names.
-use Rattle.std.specs.Prelude.{◌≡◌, ℕ, List, [], Option, Some, None, slice_get, option_and_then, find, position, bytes_eq}
+use Rattle.std.specs.Prelude.{◌≡◌, ℕ, List, [], Option, Some, None, slice_get, find, position, bytes_eq}
 use Rattle.st_il.specs.declared.definition.ClauseDef.{ClauseDef}
 use Rattle.st_il.specs.declared.definition.FunDef.{FunDef}
 use Rattle.st_il.specs.declared.definition.Il.{Il}

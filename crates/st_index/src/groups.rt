@@ -111,11 +111,16 @@ pub(crate) fn clauses_by_function(alloc: Global, il: &Il) -> Result<Groups<Claus
 }
 
 /// What stands under a name, in order; nothing where nothing was put.
-pub(crate) fn members_of<'m, 'a, T>(groups: &'m Groups<'a, T>, name: &Name) -> &'m [&'a T]
+pub(crate) fn members_of<'m, 'a, T>(
+    groups: &'m Groups<'a, T>,
+    none: &'m Row<&'a T>,
+    name: &Name,
+) -> &'m [&'a T]
+    requires { none.now ≡ [] }
     ensures { all_now result.now ≡ members groups.now.entries name.now }
 {
     let Some(row) = at(groups, name) else {
-        return &[];
+        return none.as_slice();
     };
     row.as_slice()
 }

@@ -6,7 +6,7 @@ use crate::groups::{Groups, clauses_by_function, members_of, rules_by_relation};
 use crate::listing::Listing;
 use crate::parts::{functions, relations, syntaxes};
 use st_il::{ClauseDef, FunDef, Il, RelationDef, RuleDef, SyntaxDef};
-use st_num::{Name, NoMemory};
+use st_num::{Name, NoMemory, Row};
 use std::alloc::Global;
 use std::marker::Model;
 
@@ -20,6 +20,8 @@ pub struct Index<'a> {
     functions: Listing<'a, FunDef>,
     rules: Groups<'a, RuleDef>,
     clauses: Groups<'a, ClauseDef>,
+    no_rules: Row<&'a RuleDef>,
+    no_clauses: Row<&'a ClauseDef>,
 }
 
 impl<'a> Model for Index<'a> {
@@ -36,7 +38,7 @@ impl<'a> Model for Index<'a> {
 
     ghost invariant = { λ index.
         IsKept index.il.now index.syntaxes index.relations index.functions
-        index.rules.entries index.clauses.entries };
+        index.rules.entries index.clauses.entries index.no_rules index.no_clauses };
 }
 
 /// The index of an internal language, in a time that grows with its size alone.
@@ -56,6 +58,8 @@ pub fn index_of<'a>(alloc: Global, il: &'a Il) -> Result<Index<'a>, NoMemory>
         functions,
         rules,
         clauses,
+        no_rules: Row::new(alloc),
+        no_clauses: Row::new(alloc),
     })
 }
 
@@ -146,7 +150,7 @@ impl<'a> Index<'a> {
     pub fn rules_of(&self, name: &Name) -> &[&'a RuleDef]
         ensures { all_now result.now ≡ rules_of self.now name.now }
     {
-        members_of(&self.rules, name)
+        members_of(&self.rules, &self.no_rules, name)
     }
 
     /// The rules of the relation of this number, in order; none where there is no such relation.
@@ -154,7 +158,7 @@ impl<'a> Index<'a> {
         ensures { all_now result.now ≡ rules_at self.now number }
     {
         let Some(relation) = self.relations().get(number) else {
-            return &[];
+            return self.no_rules.as_slice();
         };
         self.rules_of(&relation.name)
     }
@@ -170,7 +174,7 @@ impl<'a> Index<'a> {
     pub fn clauses_of(&self, name: &Name) -> &[&'a ClauseDef]
         ensures { all_now result.now ≡ clauses_of self.now name.now }
     {
-        members_of(&self.clauses, name)
+        members_of(&self.clauses, &self.no_clauses, name)
     }
 
     /// The clauses of the function of this number, in order; none where there is no such function.
@@ -178,7 +182,7 @@ impl<'a> Index<'a> {
         ensures { all_now result.now ≡ clauses_at self.now number }
     {
         let Some(function) = self.functions().get(number) else {
-            return &[];
+            return self.no_clauses.as_slice();
         };
         self.clauses_of(&function.name)
     }

@@ -1,7 +1,7 @@
 use Rattle.std.proofs.Common.{◌≡◌, ◌++◌, drop}
 use Rattle.st_il.specs.Names.{among}
 use Rattle.st_index.specs.Names.{names_in}
-use Rattle.st_index.proofs.index.push_known.Given as goal
+use Rattle.st_index.proofs.names.push_known.Given as goal
 
 abbrev pub invariant-loop-name : goal.invariant-loop-name
 invariant-loop-name l =

@@ -1,6 +1,5 @@
-use Rattle.std.proofs.Common.{refl}
 use Rattle.st_il.specs.Definitions.{funs_in}
-use Rattle.st_index.proofs.PlaceParts.{following, ended}
+use Rattle.st_index.proofs.PlaceParts.{following}
 use Rattle.st_index.proofs.DefinitionParts.{functions_head}
 use Rattle.st_index.proofs.parts.functions.Goals as goal
 

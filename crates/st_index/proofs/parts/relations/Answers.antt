@@ -1,6 +1,5 @@
-use Rattle.std.proofs.Common.{refl}
 use Rattle.st_il.specs.Definitions.{relations_in}
-use Rattle.st_index.proofs.PlaceParts.{following, ended}
+use Rattle.st_index.proofs.PlaceParts.{following}
 use Rattle.st_index.proofs.DefinitionParts.{relations_head}
 use Rattle.st_index.proofs.parts.relations.Goals as goal
 
