@@ -1,2 +1,3 @@
 mod NumberedTexts
 mod BareIterations
+mod SentenceParts
