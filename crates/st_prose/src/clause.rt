@@ -7,7 +7,7 @@ ghost use Rattle.st_prose.specs.ProseText.{clause_heading, clause_text, function
 use crate::expression::print_word;
 use crate::step::{print_number, print_steps};
 use st_algo::{Algorithm, Algos};
-use st_il::Il;
+use st_index::Index;
 use st_num::{Name, NoMemory};
 use std::alloc::Global;
 
@@ -26,29 +26,29 @@ fn print_heading(number: usize, function: &Name, out: &mut Vec<u8>) -> Result<()
 /// Appends a clause, by its number.
 fn print_clause(
     alloc: Global,
-    il: &Il,
+    index: &Index,
     number: usize,
     clause: &Algorithm,
     out: &mut Vec<u8>,
 ) -> Result<(), NoMemory>
     ensures { OnOk result (out.new.items
-        ≡ out.old.items ++ clause_text il.now (number, clause.now)) }
+        ≡ out.old.items ++ clause_text index.now (number, clause.now)) }
 {
     print_heading(number, &clause.name, out)?;
-    print_steps(alloc, il, clause.steps.as_slice(), out)
+    print_steps(alloc, index, clause.steps.as_slice(), out)
 }
 
 /// Appends the clauses of a function, numbered from 1.
 fn print_function(
     alloc: Global,
-    il: &Il,
+    index: &Index,
     clauses: &[Algorithm],
     out: &mut Vec<u8>,
 ) -> Result<(), NoMemory>
-    ensures { OnOk result (out.new.items ≡ out.old.items ++ function_text il.now clauses.now) }
+    ensures { OnOk result (out.new.items ≡ out.old.items ++ function_text index.now clauses.now) }
 {
     for i in 0..clauses.len() {
-        print_clause(alloc, il, i + 1, &clauses[i], out)?;
+        print_clause(alloc, index, i + 1, &clauses[i], out)?;
     }
     Ok(())
 }
@@ -56,15 +56,15 @@ fn print_function(
 /// Appends the clauses of all functions.
 pub(crate) fn print_functions(
     alloc: Global,
-    il: &Il,
+    index: &Index,
     algos: &Algos,
     out: &mut Vec<u8>,
 ) -> Result<(), NoMemory>
     ensures { OnOk result (out.new.items
-        ≡ out.old.items ++ flat_map (function_text il.now) algos.now.funs) }
+        ≡ out.old.items ++ flat_map (function_text index.now) algos.now.funs) }
 {
     for clauses in algos.funs.as_slice() {
-        print_function(alloc, il, clauses.as_slice(), out)?;
+        print_function(alloc, index, clauses.as_slice(), out)?;
     }
     Ok(())
 }

@@ -5,7 +5,8 @@ ghost use Rattle.st_prose.specs.Sentences.{listed, exp_text, exps_text, mark_tex
 
 use st_el::print_el;
 use st_erase::erase_exp;
-use st_il::{Il, IlExp, Iteration, copy_iteration};
+use st_il::{IlExp, Iteration, copy_iteration};
+use st_index::Index;
 use st_num::{Boxed, Name, NoMemory, Row};
 use std::alloc::Global;
 
@@ -35,32 +36,32 @@ pub(crate) fn print_names(names: &[Name], out: &mut Vec<u8>) -> Result<(), NoMem
 /// Appends an expression.
 pub(crate) fn print_exp(
     alloc: Global,
-    il: &Il,
+    index: &Index,
     exp: &IlExp,
     out: &mut Vec<u8>,
 ) -> Result<(), NoMemory>
-    ensures { OnOk result (out.new.items ≡ out.old.items ++ exp_text il.now exp.now) }
+    ensures { OnOk result (out.new.items ≡ out.old.items ++ exp_text index.now exp.now) }
 {
-    let source = erase_exp(alloc, il, exp)?;
+    let source = erase_exp(alloc, index.il(), exp)?;
     print_el(alloc, &source, out)
 }
 
 /// Appends expressions with commas between them.
 pub(crate) fn print_exps(
     alloc: Global,
-    il: &Il,
+    index: &Index,
     exps: &[IlExp],
     out: &mut Vec<u8>,
 ) -> Result<(), NoMemory>
-    ensures { OnOk result (out.new.items ≡ out.old.items ++ exps_text il.now exps.now) }
+    ensures { OnOk result (out.new.items ≡ out.old.items ++ exps_text index.now exps.now) }
 {
     let Some((first, others)) = exps.split_first() else {
         return print_word(b"nothing", out);
     };
-    print_exp(alloc, il, first, out)?;
+    print_exp(alloc, index, first, out)?;
     for exp in others {
         print_word(b", ", out)?;
-        print_exp(alloc, il, exp, out)?;
+        print_exp(alloc, index, exp, out)?;
     }
     Ok(())
 }
@@ -69,14 +70,14 @@ pub(crate) fn print_exps(
 /// whole text of one whose body is a name without letters.
 pub(crate) fn print_mark(
     alloc: Global,
-    il: &Il,
+    index: &Index,
     how: &Iteration,
     out: &mut Vec<u8>,
 ) -> Result<(), NoMemory>
-    ensures { OnOk result (out.new.items ≡ out.old.items ++ mark_text il.now how.now) }
+    ensures { OnOk result (out.new.items ≡ out.old.items ++ mark_text index.now how.now) }
 {
     let body = Boxed::new(alloc, IlExp::Var(Row::new(alloc)))?;
     let how = copy_iteration(alloc, how)?;
     let bare = IlExp::Iter(how, Row::new(alloc), body);
-    print_exp(alloc, il, &bare, out)
+    print_exp(alloc, index, &bare, out)
 }

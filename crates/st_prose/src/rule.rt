@@ -11,7 +11,7 @@ ghost use Rattle.st_prose.specs.ProseText.{rule_heading, algorithms_at, algorith
 use crate::expression::print_word;
 use crate::step::print_steps;
 use st_algo::{Algorithm, Algos};
-use st_il::{Il, RelationDef, RuleDef};
+use st_il::{RelationDef, RuleDef};
 use st_index::Index;
 use st_num::NoMemory;
 use std::alloc::Global;
@@ -60,15 +60,15 @@ fn print_heading(rule: &RuleDef, out: &mut Vec<u8>) -> Result<(), NoMemory>
 /// Appends what stands under the heading of a rule.
 fn print_rule_steps(
     alloc: Global,
-    il: &Il,
+    index: &Index,
     algorithm: Option<&Algorithm>,
     out: &mut Vec<u8>,
 ) -> Result<(), NoMemory>
     ensures { OnOk result (out.new.items
-        ≡ out.old.items ++ rule_steps il.now (option_copied algorithm.entry)) }
+        ≡ out.old.items ++ rule_steps index.now (option_copied algorithm.entry)) }
 {
     match algorithm {
-        Some(algorithm) => print_steps(alloc, il, algorithm.steps.as_slice(), out),
+        Some(algorithm) => print_steps(alloc, index, algorithm.steps.as_slice(), out),
         None => print_word(b"No algorithm.\n", out),
     }
 }
@@ -76,32 +76,32 @@ fn print_rule_steps(
 /// Appends a rule, by its number.
 fn print_rule(
     alloc: Global,
-    il: &Il,
+    index: &Index,
     algorithms: &[Option<Algorithm>],
     number: usize,
     rule: &RuleDef,
     out: &mut Vec<u8>,
 ) -> Result<(), NoMemory>
     ensures { OnOk result (out.new.items
-        ≡ out.old.items ++ rule_text il.now algorithms.now (number, rule.now)) }
+        ≡ out.old.items ++ rule_text index.now algorithms.now (number, rule.now)) }
 {
     print_heading(rule, out)?;
-    print_rule_steps(alloc, il, algorithm_at(algorithms, number), out)
+    print_rule_steps(alloc, index, algorithm_at(algorithms, number), out)
 }
 
 /// Appends rules, in order.
 fn print_rules(
     alloc: Global,
-    il: &Il,
+    index: &Index,
     algorithms: &[Option<Algorithm>],
     rules: &[&RuleDef],
     out: &mut Vec<u8>,
 ) -> Result<(), NoMemory>
     ensures { OnOk result (out.new.items ≡ out.old.items
-        ++ flat_map (rule_text il.now algorithms.now) (enumerate_from 0 (all_now rules.now))) }
+        ++ flat_map (rule_text index.now algorithms.now) (enumerate_from 0 (all_now rules.now))) }
 {
     for i in 0..rules.len() {
-        print_rule(alloc, il, algorithms, i, rules[i], out)?;
+        print_rule(alloc, index, algorithms, i, rules[i], out)?;
     }
     Ok(())
 }
@@ -120,7 +120,7 @@ fn print_relation(
 {
     let algorithms = algorithms_at(algos, number);
     let rules = index.rules_of(&relation.name);
-    print_rules(alloc, index.il(), algorithms, rules, out)
+    print_rules(alloc, index, algorithms, rules, out)
 }
 
 /// Appends the rules of all relations.

@@ -20,7 +20,7 @@ pub fn prose(alloc: Global, il: &Il, algos: &Algos, out: &mut Vec<u8>) -> Result
     let index = index_of(alloc, il)?;
     let mut text = Vec::new(alloc);
     print_relations(alloc, &index, algos, &mut text)?;
-    print_functions(alloc, il, algos, &mut text)?;
+    print_functions(alloc, &index, algos, &mut text)?;
     out.extend_from_slice(text.as_slice())?;
     Ok(())
 }

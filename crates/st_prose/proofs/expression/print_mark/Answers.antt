@@ -6,4 +6,4 @@ use Rattle.st_prose.proofs.expression.print_mark.Goals as goal
 pub returns : goal.returns
 returns c =
     let P : List ℕ → Type 0 = λ text. OnOk c.print_exp.result (c.print_exp.new.out.items ≡ c.args.out.now.items ++ text) in
-    subst P (bare_iteration c.args.il.now c.args.how.now _ _ _ c.in_ok-how.ensures c.new-3.ensures (c.in_ok-body.ensures ∙ ap il_exp.Var c.new.ensures)) c.print_exp.ensures
+    subst P (bare_iteration c.args.index.now c.args.how.now _ _ _ c.in_ok-how.ensures c.new-3.ensures (c.in_ok-body.ensures ∙ ap il_exp.Var c.new.ensures)) c.print_exp.ensures

@@ -6,5 +6,5 @@ use Rattle.st_prose.proofs.rule.print_rules.Given as goal
 
 abbrev pub invariant-loop-i : goal.invariant-loop-i
 invariant-loop-i l =
-    l.out.items ++ flat_map (rule_text l.il l.algorithms) (enumerate_from l.i (all_now (drop l.i l.rules)))
-    ≡ l.initial.out.items ++ flat_map (rule_text l.il l.algorithms) (enumerate_from 0 (all_now l.rules))
+    l.out.items ++ flat_map (rule_text l.index l.algorithms) (enumerate_from l.i (all_now (drop l.i l.rules)))
+    ≡ l.initial.out.items ++ flat_map (rule_text l.index l.algorithms) (enumerate_from 0 (all_now l.rules))
