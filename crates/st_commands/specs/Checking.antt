@@ -6,13 +6,19 @@ use Rattle.st_deps.specs.Cited.{Name}
 use Rattle.st_deps.specs.Definitions.{Cites, declared}
 use Rattle.st_deps.specs.Groups.{AreGroups}
 use Rattle.st_commands.specs.declared.check.Printed.{Printed}
-use Rattle.st_commands.specs.declared.check.Printed.TheVariants.{Count, Language, Groups, Orders, Latex}
+use Rattle.st_commands.specs.declared.check.Printed.TheVariants.{Count, Language, Groups, Orders, Latex, Prose}
 use Rattle.st_answers.specs.declared.status.Status.{Status}
 use Rattle.st_answers.specs.declared.status.Status.TheVariants as answer
 use Rattle.st_il.specs.declared.small.Small.{Small}
 use Rattle.st_il.specs.Small.{il_of}
 use Rattle.st_iltext.specs.IlText.{IlText, il_text}
+use Rattle.st_algo.specs.Lowered.{AreLowered}
+use Rattle.st_algo.specs.declared.algorithm.Algos.{Algos}
+use Rattle.st_il.specs.declared.definition.Il.{Il}
 use Rattle.st_latex.specs.LatexText.{latex_text}
+use Rattle.st_order.specs.Modes.{AreModes}
+use Rattle.st_order.specs.declared.relation_modes.Modes.{Modes}
+use Rattle.st_prose.specs.ProseText.{prose_text}
 use Rattle.st_answers.specs.OrderTexts.{orders_text}
 use Rattle.st_small.specs.SmallText.{IsTextOf}
 use Rattle.st_source.specs.Refused.{AreRefused}
@@ -25,9 +31,15 @@ use Rattle.st_answers.specs.GroupTexts.{groups_text}
 abbrev pub definitions_text : ℕ → List ℕ
 definitions_text count = codes "accepted " ++ decimal count ++ codes " definitions\n"
 
+-- the prose of an internal language: by the algorithms to which it is lowered with its modes
+abbrev pub IsProse : Il → List ℕ → Type 0
+IsProse il bytes =
+    (modes : Modes) × (algos : Algos) × AreModes il modes × AreLowered il modes algos
+    × (bytes ≡ prose_text il algos)
+
 -- The text that is asked for, of definitions without a breach and of what they are elaborated to:
--- how many they are, their internal language, its groups, the orders of its rules, or the definitions
--- in LaTeX.
+-- how many they are, their internal language, its groups, the orders of its rules, the definitions in
+-- LaTeX, or the prose of the language.
 abbrev pub Prints : Printed → List Def → Elaborated → List ℕ → Type 0
 Prints Count defs e bytes = bytes ≡ definitions_text (length defs)
 Prints Language defs e bytes = bytes ≡ il_text e.il
@@ -36,6 +48,7 @@ Prints Groups defs e bytes =
     × (bytes ≡ groups_text groups)
 Prints Orders defs e bytes = bytes ≡ orders_text e.il
 Prints Latex defs e bytes = bytes ≡ latex_text defs
+Prints Prose defs e bytes = IsProse e.il bytes
 
 -- ---- files
 
@@ -76,3 +89,7 @@ OrdersGive = FilesGive Orders
 -- what is said of files whose LaTeX is asked for: their first fault or breach, or their definitions
 abbrev pub LatexGives : List (List ℕ) → List (List ℕ) → Status → List ℕ → Type 0
 LatexGives = FilesGive Latex
+
+-- what is said of files whose prose is asked for: their first fault or breach, or the prose
+abbrev pub ProseGives : List (List ℕ) → List (List ℕ) → Status → List ℕ → Type 0
+ProseGives = FilesGive Prose

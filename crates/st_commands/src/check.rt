@@ -4,11 +4,12 @@ ghost use Rattle.std.specs.Prelude.{◌≡◌, ◌≤◌, length, All, IfOk};
 ghost use Rattle.st_iltext.specs.IlText.{il_text};
 ghost use Rattle.st_latex.specs.LatexText.{latex_text};
 ghost use Rattle.st_order.specs.Modes.{HasFew, AreModes};
-ghost use Rattle.st_commands.specs.Checking.{Prints, FilesGive, definitions_text};
+ghost use Rattle.st_commands.specs.Checking.{IsProse, Prints, FilesGive, definitions_text};
 ghost use Rattle.st_elab_def.specs.declared.elaborated.Elaborated.{Elaborated as Elaboration};
 ghost use Rattle.st_source.specs.Faults.{source_limit};
 
 use itoa::Buffer;
+use st_algo::lower;
 use st_answers::{Answer, Status, groups_printed, orders_printed};
 use st_el::Def;
 use st_il::Il;
@@ -16,6 +17,7 @@ use st_iltext::print_il;
 use st_latex::latex;
 use st_num::{NoMemory, Row};
 use st_order::Modes;
+use st_prose::prose;
 use st_source::{Specification, read_specification};
 use st_words::CommandWord;
 use std::alloc::Global;
@@ -33,6 +35,8 @@ pub enum Printed {
     Orders,
     /// Its definitions in LaTeX.
     Latex,
+    /// The steps by which its rules and clauses are run, as prose.
+    Prose,
 }
 
 /// The line with so many definitions.
@@ -64,6 +68,17 @@ fn typeset(alloc: Global, definitions: &[Def]) -> Result<Vec<u8>, NoMemory>
     Ok(bytes)
 }
 
+/// The prose of this internal language with its modes.
+fn explained(alloc: Global, il: &Il, modes: &Modes) -> Result<Vec<u8>, NoMemory>
+    requires { AreModes il.now modes.now }
+    ensures { IfOk result (λ bytes. IsProse il.now bytes.items) }
+{
+    let algos = lower(alloc, il, modes)?;
+    let mut bytes = Vec::new(alloc);
+    prose(alloc, il, &algos, &mut bytes)?;
+    Ok(bytes)
+}
+
 /// The answer where a specification of these definitions, with this internal language and its modes,
 /// is accepted.
 fn accepted(
@@ -85,6 +100,7 @@ fn accepted(
         Printed::Groups => groups_printed(alloc, il)?,
         Printed::Orders => orders_printed(alloc, il, modes)?,
         Printed::Latex => typeset(alloc, definitions)?,
+        Printed::Prose => explained(alloc, il, modes)?,
     };
     Ok(Answer {
         status: Status::Done,

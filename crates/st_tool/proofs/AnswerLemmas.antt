@@ -25,7 +25,7 @@ answerable words (Derive relation term [] fuel depth) built = absurd built
 answerable words (Derive relation term (file ∷ []) fuel depth) built = tt
 answerable words (Derive relation term (file ∷ other ∷ files) fuel depth) built = absurd built
 answerable words (Verify il derivation) built = tt
-answerable words (Prose files) built = absurd built
+answerable words (Prose files) built = tt
 answerable words (Latex files) built = tt
 answerable words (Make n) built = absurd built
 

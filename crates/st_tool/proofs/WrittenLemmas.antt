@@ -146,7 +146,7 @@ gives_own (Verify il_name name) (one ∷ two ∷ three ∷ files) status bytes g
 gives_own (Check names) files status bytes gives = files_are_own asked.Count names files status bytes gives
 gives_own (Groups names) files status bytes gives = files_are_own asked.Groups names files status bytes gives
 gives_own (Order names) files status bytes gives = files_are_own asked.Orders names files status bytes gives
-gives_own (Prose names) files status bytes gives = absurd gives
+gives_own (Prose names) files status bytes gives = files_are_own asked.Prose names files status bytes gives
 gives_own (Latex names) files status bytes gives = files_are_own asked.Latex names files status bytes gives
 gives_own (Make n) files status bytes gives = absurd gives
 

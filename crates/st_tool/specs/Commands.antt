@@ -2,7 +2,7 @@
 use Rattle.std.specs.Prelude.{◌≡◌, ℕ, false, List, [], ◌∷◌}
 use Rattle.st_answers.specs.declared.status.Status.{Status}
 use Rattle.st_answers.specs.Verification.{VerifyGives, text_limit}
-use Rattle.st_commands.specs.Checking.{CheckGives, IlGives, GroupsGive, OrdersGive, LatexGives}
+use Rattle.st_commands.specs.Checking.{CheckGives, IlGives, GroupsGive, OrdersGive, LatexGives, ProseGives}
 use Rattle.st_commands.specs.Derived.{DeriveGives}
 use Rattle.st_commands.specs.Queries.{EvalGives}
 use Rattle.st_commands.specs.Searches.{RunGives, NextGives}
@@ -18,6 +18,7 @@ Gives (IlOf names) files status bytes = IlGives names files status bytes
 Gives (Groups names) files status bytes = GroupsGive names files status bytes
 Gives (Order names) files status bytes = OrdersGive names files status bytes
 Gives (Latex names) files status bytes = LatexGives names files status bytes
+Gives (Prose names) files status bytes = ProseGives names files status bytes
 Gives (Eval query_name names) (query ∷ files) status bytes =
     EvalGives names query files status bytes
 Gives (Next relation name names) (term ∷ files) status bytes =
@@ -30,12 +31,11 @@ Gives (Verify il_name name) (il ∷ derivation ∷ []) status bytes =
     VerifyGives il derivation status bytes
 Gives command files status bytes = ⊥
 
--- Which commands are built, of these words: all but those of two names, and derivations over one
+-- Which commands are built, of these words: all but `make`, and derivations over one
 -- file and without options.
 abbrev pub IsBuilt : List (List ℕ) → Command → Type 0
 IsBuilt words (Derive relation term (file ∷ []) fuel depth) = has_options words ≡ false
 IsBuilt words (Derive relation term files fuel depth) = ⊥
-IsBuilt words (Prose files) = ⊥
 IsBuilt words (Make n) = ⊥
 IsBuilt words command = Unit {0}
 

@@ -66,6 +66,7 @@ fn answer_given(alloc: Global, command: &Command, given: &[Row<u8>]) -> Result<A
         Command::Groups(names) => answer_files(alloc, Printed::Groups, names.as_slice(), given),
         Command::Order(names) => answer_files(alloc, Printed::Orders, names.as_slice(), given),
         Command::Latex(names) => answer_files(alloc, Printed::Latex, names.as_slice(), given),
+        Command::Prose(names) => answer_files(alloc, Printed::Prose, names.as_slice(), given),
         Command::Eval(_, names) => {
             let (query, files) = first_file(given);
             eval_files(alloc, names.as_slice(), files, query)
@@ -94,7 +95,7 @@ fn answer_given(alloc: Global, command: &Command, given: &[Row<u8>]) -> Result<A
             let (il, derivation) = two_files(given);
             verify_files(alloc, il, derivation)
         }
-        Command::Prose(_) | Command::Make(_) => unreachable!(),
+        Command::Make(_) => unreachable!(),
     }
 }
 
@@ -145,11 +146,12 @@ fn is_built(words: &[String], command: &Command) -> bool
         | Command::Groups(_)
         | Command::Order(_)
         | Command::Latex(_)
+        | Command::Prose(_)
         | Command::Eval(_, _)
         | Command::Next(_, _, _)
         | Command::Run(_, _, _, _, _)
         | Command::Verify(_, _) => true,
-        Command::Prose(_) | Command::Make(_) => false,
+        Command::Make(_) => false,
     }
 }
 

@@ -1,0 +1,3 @@
+mod NumberedTexts
+mod BareIterations
+mod SentenceParts
