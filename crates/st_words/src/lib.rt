@@ -13,6 +13,7 @@ mod command_word;
 mod fault;
 mod name;
 mod number;
+mod program;
 mod read;
 mod table;
 
