@@ -1,6 +1,7 @@
 //! The words of a command, as they are arranged: its name, plain words, and values of options.
 
-ghost use Rattle.std.specs.Prelude.{◌≡◌, ◌++◌, map, string_bytes, false, IfOk, OnOk};
+ghost use Rattle.std.specs.Prelude.{◌≡◌, ◌≢◌, map, string_bytes, IfOk};
+ghost use Rattle.clap.specs.declared.error.kind.ErrorKind.TheVariants.{OutOfMemory};
 ghost use Rattle.st_words.specs.Arranged.{is_dashed};
 ghost use Rattle.st_words.specs.Reads.{HasNoReading};
 ghost use Rattle.st_words.specs.inner.Fronts.{IsArrangedAs, has_dash_value};
@@ -53,7 +54,7 @@ fn has_dash_value(words: &[String]) -> bool
 
 /// Copies of these words, of which there may be none.
 fn copies(alloc: Global, words: Option<&[&str]>) -> Result<Row<CommandWord>, NoMemory>
-    ensures { IfOk result (λ copies. copies ≡ texts_given words) }
+    ensures { IfOk result (λ copies. copies ≡ texts_given words.entry) }
 {
     let mut copies = Row::new(alloc);
     let Some(words) = words else {
@@ -67,6 +68,7 @@ fn copies(alloc: Global, words: Option<&[&str]>) -> Result<Row<CommandWord>, NoM
 
 /// What an error of `clap` tells of the words.
 fn fault_of(kind: ErrorKind) -> WordsFault
+    ensures { result ≡ Usage → kind ≢ OutOfMemory }
 {
     match kind {
         ErrorKind::OutOfMemory => WordsFault::Memory,

@@ -1,7 +1,8 @@
 //! The commands as `clap` has them: the words that each takes.
 
 ghost use Rattle.std.specs.Prelude.{◌≡◌, false, IfOk};
-ghost use Rattle.clap.specs.Words.{app_of, fields_of, rule_of, shape_of};
+ghost use Rattle.clap.specs.Words.{app_of, rule_of, shape_of};
+ghost use Rattle.clap.specs.declared.builder.command.Command.TheViews.{out-Command};
 ghost use Rattle.st_words.specs.inner.Program.{plain_rule, option_rule, shape_named, program_app};
 
 use crate::name::{CommandName, NAMES};
@@ -38,10 +39,11 @@ fn option_argument<'a>(alloc: Global, name: &'a str) -> Arg<'a>
 /// The command of this name.
 fn command_named<'a>(alloc: Global, name: CommandName) -> Result<clap::Command<'a>, AllocError>
     ensures shape { IfOk result (λ command. shape_of command ≡ shape_named name) }
-    ensures local { IfOk result (λ command. (fields_of command).has_globals ≡ false) }
+    ensures local { IfOk result (λ command. (out-Command command).has_globals ≡ false) }
 {
     let plain = plain_argument(alloc);
-    let command = clap::Command::new(alloc, name.spelling()).arg(plain)?;
+    let spelling: &'a str = name.spelling();
+    let command = clap::Command::new(alloc, spelling).arg(plain)?;
     if !name.takes_options() {
         return Ok(command);
     }
