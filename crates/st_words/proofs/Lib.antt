@@ -1,4 +1,8 @@
 pub mod FrontsLemmas
+pub mod DashLemmas
+pub mod DashedLemmas
+pub mod RowsLemmas
+pub mod LeafLemmas
 pub mod Slices
 pub mod NamesLemmas
 pub mod NumbersLemmas
