@@ -1,6 +1,6 @@
 -- What `clap` makes of a word, by its first characters.
 use Rattle.std.proofs.Common.{◌≡◌, ◌∙◌, refl, sym, ap, subst, Bool, true, false, ℕ, suc, ◌+◌, List, [], ◌∷◌, ◌++◌, Option, Some, None, take, drop, length, codes, arith, inl, inr}
-use Rattle.std.specs.Prelude.{◌==◌, slice_get}
+use Rattle.std.specs.Prelude.{◌==◌, slice_get, if◌then◌else◌}
 use Rattle.std.specs.List.{before_first, after_first, position_or_len}
 use Rattle.std.specs.Str.{IsUtf8, chars}
 use Rattle.std.specs.Char.{encode_utf8}
@@ -33,18 +33,18 @@ drop-more n x xs = let e : 1 + n + 1 ≡ suc (n + 1) = omega arith in rw e refl
 
 pub spelled-is : (text : List ℕ) → text ≡ spelled (name_and_value text).0 (name_and_value text).1
 spelled-is [] = refl
-spelled-is (x ∷ xs) = by (x == 61) refl
+spelled-is (x ∷ xs) = by (spelled-is xs) (x == 61) refl
   where
     inner : (b : Bool) (before after : List ℕ) → xs ≡ spelled before (if b then Some after else None)
         → x ∷ xs ≡ spelled (x ∷ before) (if b then Some after else None)
     inner true before after is = ap (λ t. x ∷ t) is
     inner false before after is = ap (λ t. x ∷ t) is
 
-    by : (b : Bool) → (x == 61) ≡ b → x ∷ xs ≡ spelled (name_and_value (x ∷ xs)).0 (name_and_value (x ∷ xs)).1
-    by true is = let same : x ≡ 61 = eqb-true x 61 is in rw is (ap (λ y. y ∷ xs) same)
-    by false is =
+    by : xs ≡ spelled (name_and_value xs).0 (name_and_value xs).1 → (b : Bool) → (x == 61) ≡ b → x ∷ xs ≡ spelled (name_and_value (x ∷ xs)).0 (name_and_value (x ∷ xs)).1
+    by more true is = let same : x ≡ 61 = eqb-true x 61 is in rw is (ap (λ y. y ∷ xs) same)
+    by more false is =
         let n = position_or_len (λ y. y == 61) xs in
-        rw is (rw (take-more n x xs, drop-more n x xs) (inner (has_byte 61 xs) (before_first (λ y. y == 61) xs) (after_first (λ y. y == 61) xs) (spelled-is xs)))
+        rw is (rw (take-more n x xs, drop-more n x xs) (inner (has_byte 61 xs) (before_first (λ y. y == 61) xs) (after_first (λ y. y == 61) xs) more))
 
 -- what a word that begins with `-` and is longer may be
 pub data Dashed (word : List ℕ) : Type 0 where

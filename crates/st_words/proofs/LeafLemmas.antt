@@ -88,7 +88,13 @@ module _ (name : Text) where
   pub total-step : (options : Bool) (w after : Walk) (word : Text) (words : List Text) → walked (rules options) [] w word ≡ after → turn options w word ≡ []
       → total options w (word ∷ words) ≡ total options after words
   unfolding walk_fault
-  total-step options w after word words is quiet = rw (quiet, is) refl
+  total-step options w after word words is quiet =
+      ap (λ k. or_else (or_else k (walk_fault (leaf name options) [] (walked (rules options) [] w word) words)) (settle_fault (rules options) false (fold (walked (rules options) []) (walked (rules options) [] w word) words).held)) quiet
+      ∙ ap (λ v. total options v words) is
+
+  pub total-nil : (options : Bool) (w : Walk) → total options w [] ≡ settle_fault (rules options) false w.held
+  unfolding walk_fault
+  total-nil options w = refl
 
   pub total-fault : (options : Bool) (w : Walk) (word : Text) (words : List Text) → (turn options w word ≡ [] → ⊥) → total options w (word ∷ words) ≡ [] → ⊥
   unfolding walk_fault

@@ -3,6 +3,8 @@ pub mod DashLemmas
 pub mod DashedLemmas
 pub mod RowsLemmas
 pub mod LeafLemmas
+pub mod OptionsWalked
+pub mod ProgramLemmas
 pub mod Slices
 pub mod NamesLemmas
 pub mod NumbersLemmas

@@ -30,21 +30,21 @@ differ id other text apart is = ap (λ t. bytes_eq t other) ((bytes_decides text
 -- another argument has what it had
 pub look-other : (id other value : Text) (rows : List Row) → bytes_eq id other ≡ false → look other (one_more id value rows) ≡ look other rows
 look-other id other value [] apart = rw apart refl
-look-other id other value (r ∷ rows) apart = by (bytes_eq r.id id) refl
+look-other id other value (r ∷ rows) apart = by (look-other id other value rows apart) (bytes_eq r.id id) refl
   where
     changed : (r : Row) → bytes_eq r.id other ≡ false → look other (more_values CommandLine (value ∷ []) r ++ rows) ≡ look other (r ∷ rows)
     changed r no = rw no refl
 
-    by : (b : Bool) → bytes_eq r.id id ≡ b → look other (one_more id value (r ∷ rows)) ≡ look other (r ∷ rows)
-    by true is = rw is (changed r (differ id other r.id apart is))
-    by false is = rw is (ap (λ found. cond (bytes_eq r.id other) (Some r) found) (look-other id other value rows apart))
+    by : look other (one_more id value rows) ≡ look other rows → (b : Bool) → bytes_eq r.id id ≡ b → look other (one_more id value (r ∷ rows)) ≡ look other (r ∷ rows)
+    by more true is = rw is (changed r (differ id other r.id apart is))
+    by more false is = rw is (ap (λ found. cond (bytes_eq r.id other) (Some r) found) more)
 
 -- the argument has one value more
 pub look-same : (id value : Text) (values : List Text) (rows : List Row) → bytes_eq id id ≡ true → look id rows ≡ row_if id values
     → look id (one_more id value rows) ≡ row_if id (values ++ value ∷ [])
 look-same id value [] [] self is = rw self refl
 look-same id value (v ∷ vs) [] self is = absurd (cc is)
-look-same id value values (r ∷ rows) self is = by (bytes_eq r.id id) refl
+look-same id value values (r ∷ rows) self is = by (λ so. look-same id value values rows self so) (bytes_eq r.id id) refl
   where
     changed : (vs : List Text) (q : Row) → bytes_eq q.id id ≡ true → Some q ≡ row_if id vs
         → look id (more_values CommandLine (value ∷ []) q ++ rows) ≡ row_if id (vs ++ value ∷ [])
@@ -53,23 +53,24 @@ look-same id value values (r ∷ rows) self is = by (bytes_eq r.id id) refl
         let q_is : q ≡ row_with id (v ∷ vs) = ap (λ o. unwrap_or o q) so in
         rw same (ap (λ (p : Row). Some (record p { values = p.values ++ value ∷ []; source = Some CommandLine })) q_is)
 
-    by : (b : Bool) → bytes_eq r.id id ≡ b → look id (one_more id value (r ∷ rows)) ≡ row_if id (values ++ value ∷ [])
-    by true same = rw same (changed values r same (rw same at is))
-    by false other = rw other (look-same id value values rows self (rw other at is))
+    by : (look id rows ≡ row_if id values → look id (one_more id value rows) ≡ row_if id (values ++ value ∷ []))
+        → (b : Bool) → bytes_eq r.id id ≡ b → look id (one_more id value (r ∷ rows)) ≡ row_if id (values ++ value ∷ [])
+    by more true same = rw same (changed values r same (rw same at is))
+    by more false other = rw other (more (rw other at is))
 
 -- an argument that was not found has no row to take out
 pub without-none : (id : Text) (rows : List Row) → look id rows ≡ None → without id rows ≡ rows
 without-none id [] is = refl
-without-none id (r ∷ rows) is = by (bytes_eq r.id id) refl
+without-none id (r ∷ rows) is = by (λ so. without-none id rows so) (bytes_eq r.id id) refl
   where
-    by : (b : Bool) → bytes_eq r.id id ≡ b → without id (r ∷ rows) ≡ r ∷ rows
-    by true same = let bad : Some r ≡ None = rw same at is in absurd (cc bad)
-    by false other = rw other (ap (λ rs. r ∷ rs) (without-none id rows (rw other at is)))
+    by : (look id rows ≡ None → without id rows ≡ rows) → (b : Bool) → bytes_eq r.id id ≡ b → without id (r ∷ rows) ≡ r ∷ rows
+    by more true same = let bad : Some r ≡ None = rw same at is in absurd (cc bad)
+    by more false other = rw other (ap (λ rs. r ∷ rs) (more (rw other at is)))
 
 pub has_row-look : (id : Text) (rows : List Row) → has_row id rows ≡ is_some (look id rows)
 has_row-look id [] = refl
-has_row-look id (r ∷ rows) = by (bytes_eq r.id id) refl
+has_row-look id (r ∷ rows) = by (has_row-look id rows) (bytes_eq r.id id) refl
   where
-    by : (b : Bool) → bytes_eq r.id id ≡ b → has_row id (r ∷ rows) ≡ is_some (look id (r ∷ rows))
-    by true same = rw same refl
-    by false other = rw other (has_row-look id rows)
+    by : has_row id rows ≡ is_some (look id rows) → (b : Bool) → bytes_eq r.id id ≡ b → has_row id (r ∷ rows) ≡ is_some (look id (r ∷ rows))
+    by more true same = rw same refl
+    by more false other = rw other more

@@ -1,4 +1,5 @@
-use Rattle.std.proofs.Common.{◌≡◌, ◌∙◌, ap, sym, refl, true, false, map, string_bytes, drop, ◌+◌, arith, [], ◌∷◌}
+use Rattle.std.proofs.Common.{◌≡◌, ◌∙◌, ap, sym, refl, true, false, map, string_bytes, drop, ◌+◌, arith, [], ◌∷◌, codes, nat_eq}
+use Rattle.std.specs.Cmp.Lexicographic.{pointwise}
 use Rattle.st_words.specs.Arranged.{is_end}
 use Rattle.st_words.specs.inner.Fronts.{dash_value_from, has_dash_value, is_dash, names_option}
 use Rattle.st_words.proofs.DashLemmas.{dash_value-none, dash_value-end, dash_value-there, dash_value-first, dash_value-other}
@@ -31,8 +32,16 @@ loop-word-preserved c =
     let split = words_from c.args.words.now c.loop-word.word-index c.word-item.result word (omega arith) c.word-item.is c.as_str-word.ensures.value in
     let no_end : is_end word ≡ false = cc in
     let behind_is : c.if-eq-3.is_behind ≡ names_option word = elim c.if-eq-3.branch [
-      | then-eq-3 w ↦ ?
-      | else-eq-3 w ↦ ?
+      | then-eq-3 w ↦ (
+          let fuel : pointwise nat_eq word (codes "--fuel") ≡ true = cc in
+          let named : names_option word ≡ true = rw fuel refl in
+          w.is_behind-is ∙ w.if-eq-3.true ∙ sym named
+      )
+      | else-eq-3 w ↦ (
+          let no_fuel : pointwise nat_eq word (codes "--fuel") ≡ false = cc in
+          let named : names_option word ≡ pointwise nat_eq word (codes "--depth") = rw no_fuel refl in
+          w.is_behind-is ∙ w.eq-is_behind.ensures ∙ sym named
+      )
     ] in
     let one_on : dash_value_from c.loop-word.is_behind (word ∷ rest) ≡ dash_value_from (names_option word) rest = elim c.else-is_behind.branch [
       | else-is_behind-via-then-is_behind+else-eq-2 w ↦ dash_value-other c.loop-word.is_behind word rest no_end (cc)

@@ -1,10 +1,15 @@
-use Rattle.std.proofs.Common.{◌≡◌, ◌∙◌, ap, sym, refl, true, false, map, take, ◌+◌, arith}
-use Rattle.clap.specs.Words.{app_of}
+use Rattle.std.proofs.Common.{◌≡◌, ◌∙◌, ap, ap₂, sym, refl, true, false, map, take, ◌+◌, arith, rules}
+use Rattle.clap.specs.Words.{app_of, with_subcommand}
+use Rattle.clap.specs.Simple.{app_of_fields}
+use Rattle.clap.specs.declared.builder.command.Command.TheViews.{out-Command}
 use Rattle.st_words.specs.inner.Program.{program_with, program_app, shape_named, all_names}
+use Rattle.st_words.proofs.ProgramLemmas.{settings_app, one_more_command}
 use Rattle.st_words.proofs.program.program.Goals as goal
 
 pub loop-name-init : goal.loop-name-init
-loop-name-init c = ?
+loop-name-init c = settings_app (out-Command c.new.result) (out-Command c.no_binary_name.result) (out-Command c.disable_help_flag.result) (out-Command c.disable_help_subcommand.result)
+    (out-Command c.disable_version_flag.result) (out-Command c.subcommand_required-program.result)
+    c.new.ensures.app c.no_binary_name.ensures c.disable_help_flag.ensures c.disable_help_subcommand.ensures c.disable_version_flag.ensures c.subcommand_required-program.ensures
 
 pub loop-name-preserved : goal.loop-name-preserved
 loop-name-preserved c = ?
