@@ -4,6 +4,9 @@ pub mod DashedLemmas
 pub mod RowsLemmas
 pub mod LeafLemmas
 pub mod OptionsWalked
+pub mod SimLemmas
+pub mod LevelLemmas
+pub mod ParsedLemmas
 pub mod ProgramLemmas
 pub mod Slices
 pub mod NamesLemmas
