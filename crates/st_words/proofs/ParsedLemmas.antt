@@ -1,31 +1,45 @@
 -- What a parse by `clap` tells of the words.
-use Rattle.std.proofs.Common.{◌≡◌, ◌∙◌, refl, sym, ap, subst, Bool, true, false, ℕ, List, [], ◌∷◌, map, Option, Some, None, Result, Ok, Err, inl, inr, ◌⊎◌, codes, true≢false, tt}
+use Rattle.std.proofs.Common.{◌≡◌, ◌∙◌, refl, sym, ap, subst, Bool, true, false, ℕ, List, [], ◌∷◌, map, Option, Some, None, Result, Ok, Err, inl, inr, ◌⊎◌, codes, true≢false, tt, String, Global, string_bytes, ◌++◌}
 use Rattle.std.specs.Prelude.{option_map, MatchResult}
 use Rattle.std.specs.List.{All}
+use Rattle.std.specs.Prelude.{Box}
+use Rattle.std.specs.Box.{box_value}
+use Rattle.std.proofs.lemmas.Str.{IsUtf8-string_bytes}
+use Rattle.clap.specs.Simple.{subcommand_rows}
+use Rattle.clap.specs.Matches.{matched_of, raw_values}
+use Rattle.clap.specs.Values.{kind_of}
+use Rattle.clap.specs.Walk.{rows_of}
+use Rattle.clap.specs.declared.error.Error.{Error}
+use Rattle.clap.specs.declared.error.kind.ErrorKind.TheVariants.{OutOfMemory}
+use Rattle.clap.specs.declared.parser.matches.Found.{Found}
+use Rattle.clap.specs.declared.parser.matches.ArgMatches.TheViews.{out-SubCommand}
+use Rattle.clap.specs.declared.parser.matches.SubCommand.{SubCommand}
+use Rattle.clap.proofs.WalkLemmas.{raw_values-rows}
 use Rattle.std.specs.Borrow.{Bor}
 use Rattle.std.specs.Str.{bytes_eq, IsUtf8}
 use Rattle.std.specs.Cmp.Lexicographic.{bytes_decides}
 use Rattle.clap.specs.Walk.{Row, Text, all_of, idle, nothing_held}
 use Rattle.clap.specs.Simple.{subcommand_of, rows_at}
 use Rattle.clap.specs.Faults.{fault_of}
-use Rattle.clap.specs.Kinds.{Kinds}
+use Rattle.clap.specs.Kinds.{HasKind, Kinds}
 use Rattle.st_words.specs.declared.arrangement.Arrangement.{Arrangement}
 use Rattle.st_words.specs.declared.command.Command.{Command}
 use Rattle.st_words.specs.declared.name.CommandName.{CommandName}
 use Rattle.st_words.specs.declared.name.CommandName.TheVariants.{Check, Il, Groups, Order, Eval, Next, Run, Derive, Verify, Prose, Latex, Make}
 use Rattle.st_words.specs.Names.{name_spelling}
-use Rattle.st_words.specs.Arranged.{is_end, IsArranged}
+use Rattle.st_words.specs.Arranged.{begins_with_dash, is_dashed, is_end, IsArranged}
 use Rattle.st_words.specs.Numbers.{Says}
 use Rattle.st_words.specs.Table.{Asks, NoOptions}
 use Rattle.st_words.specs.Reads.{Reads, HasNoReading}
 use Rattle.st_words.specs.inner.Copies.{texts_given}
-use Rattle.st_words.specs.inner.Fronts.{arranged, dash_value_from, has_dash_value, names_option, is_dash}
+use Rattle.st_words.specs.inner.Fronts.{arranged, with_plain, with_fuel, with_depth, dash_value_from, has_dash_value, names_option, is_dash}
 use Rattle.st_words.specs.inner.Program.{all_names, program_app, takes_options}
-use Rattle.st_words.proofs.FrontsLemmas.{arranged-complete, arranged-sound}
-use Rattle.st_words.proofs.DashLemmas.{dash_value-first}
+use Rattle.st_words.proofs.FrontsLemmas.{Kind, is_plain, is_double_dash, is_fuel, is_depth, is_fuel_joined, is_depth_joined, is_unknown, kind, arranged-plain, arranged-fuel, arranged-depth, arranged-fuel_joined, arranged-depth_joined, arranged-complete, arranged-sound}
+use Rattle.st_words.proofs.DashLemmas.{dash_value-end, dash_value-first, dash_value-other}
+use Rattle.st_words.proofs.DashedLemmas.{plain_is}
 use Rattle.st_words.proofs.RowsLemmas.{look, row_if}
 use Rattle.st_words.proofs.LeafLemmas.{rules, leaf, found_now, at, Good, total}
-use Rattle.st_words.proofs.SimLemmas.{allowed, at_most_one, is_none, Tells, end_of}
+use Rattle.st_words.proofs.SimLemmas.{allowed, at_most_one, is_none, names_none, Tells, end_of}
 use Rattle.st_words.proofs.LevelLemmas.{leaf_fault, leaf-quiet, leaf-passes, leaf-tells, fold-kept, fault-name, subcommand-name, fault-no_name, fault-no_words}
 
 -- ---- which command a word names
@@ -190,3 +204,89 @@ texts-are result id values rows is given = by result values (given ∙ ap (optio
     by None (value ∷ values) e = absurd (cc e)
     by (Some words) [] e = absurd (cc e)
     by (Some words) (value ∷ values) e = cc e
+
+pub given-texts : (result : Option (Bor (List (Bor (List ℕ))))) (f : Found) (id : Text) (values : List Text) (rows : List Row) → rows_of f ≡ rows → look id rows ≡ row_if id values
+    → option_map (λ s. map (λ v. v.now) s.now) result ≡ option_map raw_values (matched_of f id) → texts_given result ≡ values
+given-texts result f id values rows same is given =
+    texts-are result id values rows is (given ∙ raw_values-rows f id ∙ ap (all_of id) same)
+
+module _ {Z : Type 0} where
+  pub names-rows : (sub : Option (Box SubCommand Z)) → option_map (λ p. p.0) (subcommand_rows sub) ≡ option_map (λ b. (out-SubCommand (box_value b)).name.now) sub
+  names-rows None = refl
+  names-rows (Some sub) = refl
+
+pub memory_alone : (kinds : Kinds) (e : Error) → kinds ≡ [] → HasKind kinds e → kind_of e ≡ OutOfMemory
+memory_alone [] e is (inl memory) = memory
+memory_alone [] e is (inr among) = absurd among
+memory_alone (k ∷ ks) e is has = absurd (cc is)
+
+pub all-utf8 : (words : List (String Global)) → All IsUtf8 (map string_bytes words)
+all-utf8 [] = tt
+all-utf8 (word ∷ words) = (IsUtf8-string_bytes word, all-utf8 words)
+
+-- ---- words with `-` as a value are not arranged
+
+begins_none : (word : List ℕ) → begins_with_dash word ≡ false → (is_dashed word ≡ false) × (is_end word ≡ false) × (is_dash word ≡ false) × (names_option word ≡ false)
+begins_none [] none = (refl, refl, refl, refl)
+begins_none (a ∷ []) none = (refl, rw none refl, rw none refl, rw none refl)
+begins_none (a ∷ b ∷ rest) none = (none, rw none refl, rw none refl, rw none refl)
+
+abbrev Spoiled : List Text → Type 0
+Spoiled words = dash_value_from false words ≡ true → arranged words ≡ None
+
+spoiled-fuel : (words : List Text) → ((value : Text) (left : List Text) → words ≡ value ∷ left → Spoiled left) → Spoiled (codes "--fuel" ∷ words)
+spoiled-fuel [] apart = λ is. refl
+spoiled-fuel (value ∷ left) apart = λ is. by (apart value left refl) (sym (dash_value-first (codes "--fuel") (value ∷ left) refl) ∙ is) (begins_with_dash value) refl
+  where
+    by : Spoiled left → dash_value_from true (value ∷ left) ≡ true → (b : Bool) → begins_with_dash value ≡ b → arranged (codes "--fuel" ∷ value ∷ left) ≡ None
+    by more is true dash = rw dash refl
+    by more is false none =
+        let (plain, no_end, no_dash, no_option) = begins_none value none in
+        let next = ap (λ b. dash_value_from b left) (sym no_option) ∙ sym (dash_value-other true value left no_end no_dash) ∙ is in
+        arranged-fuel value left none ∙ ap (with_fuel value) (more next)
+
+spoiled-depth : (words : List Text) → ((value : Text) (left : List Text) → words ≡ value ∷ left → Spoiled left) → Spoiled (codes "--depth" ∷ words)
+spoiled-depth [] apart = λ is. refl
+spoiled-depth (value ∷ left) apart = λ is. by (apart value left refl) (sym (dash_value-first (codes "--depth") (value ∷ left) refl) ∙ is) (begins_with_dash value) refl
+  where
+    by : Spoiled left → dash_value_from true (value ∷ left) ≡ true → (b : Bool) → begins_with_dash value ≡ b → arranged (codes "--depth" ∷ value ∷ left) ≡ None
+    by more is true dash = rw dash refl
+    by more is false none =
+        let (plain, no_end, no_dash, no_option) = begins_none value none in
+        let next = ap (λ b. dash_value_from b left) (sym no_option) ∙ sym (dash_value-other true value left no_end no_dash) ∙ is in
+        arranged-depth value left none ∙ ap (with_depth value) (more next)
+
+spoiled-front : (word : Text) (words : List Text) → Kind word → Spoiled words → ((value : Text) (left : List Text) → words ≡ value ∷ left → Spoiled left) → Spoiled (word ∷ words)
+spoiled-front word words (is_plain none) all apart = λ is.
+    arranged-plain word words none
+    ∙ ap (with_plain word) (all (ap (λ b. dash_value_from b words) (sym (names_none word none)) ∙ sym (dash_value-first word words (plain_is word none).0) ∙ is))
+spoiled-front word words (is_double_dash so) all apart = λ is.
+    let end : is_end word ≡ true = ap is_end so in
+    absurd (true≢false (sym is ∙ dash_value-end false word words end))
+spoiled-front word words (is_fuel so) all apart = subst (λ w. Spoiled (w ∷ words)) (sym so) (spoiled-fuel words apart)
+spoiled-front word words (is_depth so) all apart = subst (λ w. Spoiled (w ∷ words)) (sym so) (spoiled-depth words apart)
+spoiled-front word words (is_fuel_joined value so) all apart = subst (λ w. Spoiled (w ∷ words)) (sym so) (λ is.
+    arranged-fuel_joined value words ∙ ap (with_fuel value) (all (sym (dash_value-first (codes "--fuel=" ++ value) words refl) ∙ is)))
+spoiled-front word words (is_depth_joined value so) all apart = subst (λ w. Spoiled (w ∷ words)) (sym so) (λ is.
+    arranged-depth_joined value words ∙ ap (with_depth value) (all (sym (dash_value-first (codes "--depth=" ++ value) words refl) ∙ is)))
+spoiled-front word words (is_unknown none) all apart = λ is. none words
+
+spoiled-nil : Spoiled []
+unfolding dash_value_from
+spoiled-nil = λ is. absurd (true≢false (sym is))
+
+spoiled : (words : List Text) → Spoiled words
+spoiled [] = spoiled-nil
+spoiled (word ∷ []) = spoiled-front word [] (kind word) spoiled-nil (λ value left is. absurd (cc is))
+spoiled (word ∷ next ∷ words) =
+    spoiled-front word (next ∷ words) (kind word) (spoiled (next ∷ words)) (λ value left is. subst Spoiled (left_is value left is) (spoiled words))
+  where
+    left_is : (value : Text) (left : List Text) → next ∷ words ≡ value ∷ left → words ≡ left
+    left_is value left is = cc
+
+pub dash-unread : (words : List Text) → has_dash_value words ≡ true → HasNoReading words
+dash-unread words is = λ command reads.
+    let now : dash_value_from false reads.behind ≡ true = sym (behind-name reads.name reads.behind) ∙ ap has_dash_value (sym reads.first) ∙ is in
+    let none = spoiled reads.behind now in
+    let some = arranged-complete reads.behind reads.given reads.arranged in
+    absurd (cc)

@@ -114,7 +114,7 @@ prepended-plain given word None = refl
 
 -- ---- the words that follow
 
-names_none : (word : List ℕ) → is_dashed word ≡ false → names_option word ≡ false
+pub names_none : (word : List ℕ) → is_dashed word ≡ false → names_option word ≡ false
 names_none [] none = refl
 names_none (a ∷ []) none = by (a == 45) refl
   where
