@@ -2,7 +2,7 @@
 use Rattle.std.proofs.Common.{◌≡◌, ◌∙◌, refl, sym, ap, subst, Bool, true, false, ℕ, suc, ◌+◌, List, [], ◌∷◌, ◌++◌, Option, Some, None, take, drop, length, codes, arith, inl, inr}
 use Rattle.std.specs.Prelude.{◌==◌, slice_get, if◌then◌else◌}
 use Rattle.std.specs.List.{before_first, after_first, position_or_len}
-use Rattle.std.specs.Str.{IsUtf8, chars}
+use Rattle.std.specs.Str.{IsUtf8, chars, encode_utf8_all}
 use Rattle.std.specs.Char.{encode_utf8}
 use Rattle.std.proofs.lemmas.Str.{encodes-chars, length-encode}
 use Rattle.std.proofs.lemmas.Bool.{eqb-true}
@@ -76,5 +76,5 @@ has_char x xs utf8 = by (chars (x ∷ xs)) refl
     by (y ∷ ys) is = (y, ap (λ cs. slice_get cs 0) is)
     by [] is =
         let whole : chars (45 ∷ x ∷ xs) ≡ 45 ∷ [] = ap (λ cs. 45 ∷ cs) is in
-        let bad = sym (encodes-chars (45 ∷ x ∷ xs) utf8) ∙ ap Rattle.std.specs.Str.encode_utf8_all whole in
+        let bad = sym (encodes-chars (45 ∷ x ∷ xs) utf8) ∙ ap encode_utf8_all whole in
         absurd (cc bad)

@@ -1,6 +1,6 @@
 -- What is wrong with the words of a command, level by level.
-use Rattle.std.proofs.Common.{◌≡◌, ◌∙◌, refl, sym, ap, subst, Bool, true, false, cond, ◌&&◌, ◌||◌, ℕ, List, [], ◌∷◌, ◌++◌, map, Option, Some, None, codes, append_assoc, tt, inl, inr, ◌⊎◌}
-use Rattle.std.specs.Prelude.{fold, find, is_some, option_map}
+use Rattle.std.proofs.Common.{◌≡◌, ◌∙◌, refl, sym, ap, subst, Bool, true, false, cond, ◌&&◌, ◌||◌, ℕ, List, [], ◌∷◌, ◌++◌, map, Option, Some, None, codes, append_assoc, inl, inr}
+use Rattle.std.specs.Prelude.{fold, find, is_some, option_map, ◌⊎◌}
 use Rattle.std.specs.List.{All}
 use Rattle.std.specs.Str.{bytes_eq, IsUtf8}
 use Rattle.std.specs.Cmp.Lexicographic.{bytes_decides}
@@ -23,7 +23,7 @@ use Rattle.st_words.proofs.FrontsLemmas.{arranged-complete, arranged-sound}
 use Rattle.st_words.proofs.DashLemmas.{dash_value-first}
 use Rattle.st_words.proofs.DashedLemmas.{Dashed, double, long, short, dashed_is, plain_is, has_char}
 use Rattle.st_words.proofs.RowsLemmas.{look, row_if, row_with}
-use Rattle.st_words.proofs.LeafLemmas.{rules, leaf, found_now, at, Good, or_else-parts, or_else-nil, total}
+use Rattle.st_words.proofs.LeafLemmas.{rules, leaf, plain_built, option_built, found_now, at, Good, or_else-parts, or_else-nil, total}
 use Rattle.st_words.proofs.SimLemmas.{allowed, Tells, end_of, sim}
 
 -- ---- one command
@@ -35,16 +35,18 @@ kept rows a is = rw is (by (has_row a.id rows))
     by true = refl
     by false = refl
 
-fold-kept : (options : Bool) (rows : List Row) → fold with_default rows (rules options) ≡ rows
-fold-kept true rows = rw (kept rows _ refl) refl
-fold-kept false rows = rw (kept rows _ refl) refl
+pub fold-kept : (options : Bool) (rows : List Row) → fold with_default rows (rules options) ≡ rows
+fold-kept true rows =
+    ap (λ rs. with_default (with_default rs (option_built (codes "fuel"))) (option_built (codes "depth"))) (kept rows plain_built refl)
+    ∙ ap (λ rs. with_default rs (option_built (codes "depth"))) (kept rows (option_built (codes "fuel")) refl) ∙ kept rows (option_built (codes "depth")) refl
+fold-kept false rows = kept rows plain_built refl
 
 default-none : (rows : List Row) (a : Rule) → a.defaults ≡ [] → default_fault rows a ≡ []
-default-none rows a is = rw is (by (has_row a.id rows))
+default-none rows a is = rw is (by (has_row a.id rows) _)
   where
-    by : (b : Bool) → cond (b || true) [] _ ≡ []
-    by true = refl
-    by false = refl
+    by : (b : Bool) (k : Kinds) → cond (b || true) [] k ≡ []
+    by true k = refl
+    by false k = refl
 
 one-default : (rows : List Row) (a : Rule) (rest : List Rule) → a.defaults ≡ [] → defaults_fault rows (a ∷ rest) ≡ defaults_fault rows rest
 unfolding defaults_fault
@@ -204,7 +206,7 @@ turn-no_name word none utf8 true dashed = by (dashed_is word dashed)
 end-fault : (words : List Text) → fault_of program_app (codes "--" ∷ words) ≡ [] → ⊥
 unfolding walk_fault walked defaults_fault
 end-fault [] is = absurd (cc is)
-end-fault (word ∷ words) is = absurd (cc (or_else-parts _ _ (or_else-parts _ _ is).0).0)
+end-fault (word ∷ words) is = absurd (cc is)
 
 pub fault-no_name : (word : Text) (words : List Text) → ((name : CommandName) → ¬ (word ≡ name_spelling name)) → IsUtf8 word → fault_of program_app (word ∷ words) ≡ [] → ⊥
 unfolding walk_fault

@@ -1,6 +1,6 @@
 -- What a parse by `clap` tells of the words.
-use Rattle.std.proofs.Common.{◌≡◌, ◌∙◌, refl, sym, ap, subst, Bool, true, false, ℕ, List, [], ◌∷◌, map, Option, Some, None, Result, Ok, Err, inl, inr, ◌⊎◌, codes, true≢false, tt, String, Global, string_bytes, ◌++◌}
-use Rattle.std.specs.Prelude.{option_map, MatchResult}
+use Rattle.std.proofs.Common.{◌≡◌, ◌∙◌, refl, sym, ap, subst, Bool, true, false, ℕ, List, [], ◌∷◌, map, Option, Some, None, inl, inr, codes, true≢false, String, Global, string_bytes, ◌++◌}
+use Rattle.std.specs.Prelude.{option_map, ◌⊎◌}
 use Rattle.std.specs.List.{All}
 use Rattle.std.specs.Prelude.{Box}
 use Rattle.std.specs.Box.{box_value}
@@ -153,9 +153,6 @@ parsed-name name behind utf8 no_dash quiet =
     by (arranged behind) refl (leaf-tells (name_spelling name) (takes_options name) behind utf8 no_dash)
     (leaf-quiet (name_spelling name) (takes_options name) behind (sym (fault-name name behind) ∙ quiet))
   where
-    abbrev wrong : Kinds
-    wrong = total (name_spelling name) (takes_options name) (at nothing_held idle false) behind
-
     good_is : (given : Arrangement) → arranged behind ≡ Some given → Good (takes_options name) (end_of (name_spelling name) (takes_options name) (at nothing_held idle false) behind) given → Parsed (name_spelling name ∷ behind)
     good_is given is good =
         let rows_are = fold-kept (takes_options name) (found_now (takes_options name) (end_of (name_spelling name) (takes_options name) (at nothing_held idle false) behind)) in
@@ -172,16 +169,14 @@ parsed-name name behind utf8 no_dash quiet =
           depths = ap (look (codes "depth")) rows_are ∙ good.depths;
         }
 
-    by : (found : Option Arrangement) → arranged behind ≡ found
-        → Tells (takes_options name) wrong (end_of (name_spelling name) (takes_options name) (at nothing_held idle false) behind) found → wrong ≡ [] → Parsed (name_spelling name ∷ behind)
+    by_fine : (given : Arrangement) → arranged behind ≡ Some given → Tells (takes_options name) (total (name_spelling name) (takes_options name) (at nothing_held idle false) behind) (end_of (name_spelling name) (takes_options name) (at nothing_held idle false) behind) (Some given)
+        → total (name_spelling name) (takes_options name) (at nothing_held idle false) behind ≡ [] → (fine : Bool) → allowed (takes_options name) given ≡ fine → Parsed (name_spelling name ∷ behind)
+    by_fine given is told quiet true fine = good_is given is (told.0 fine).1
+    by_fine given is told quiet false fine = absurd (told.1 fine quiet)
+
+    by : (found : Option Arrangement) → arranged behind ≡ found → Tells (takes_options name) (total (name_spelling name) (takes_options name) (at nothing_held idle false) behind) (end_of (name_spelling name) (takes_options name) (at nothing_held idle false) behind) found → total (name_spelling name) (takes_options name) (at nothing_held idle false) behind ≡ [] → Parsed (name_spelling name ∷ behind)
     by None is told quiet = absurd (told quiet)
     by (Some given) is told quiet = by_fine given is told quiet (allowed (takes_options name) given) refl
-      where
-        by_fine : (given : Arrangement) → arranged behind ≡ Some given
-            → Tells (takes_options name) wrong (end_of (name_spelling name) (takes_options name) (at nothing_held idle false) behind) (Some given) → wrong ≡ []
-            → (fine : Bool) → allowed (takes_options name) given ≡ fine → Parsed (name_spelling name ∷ behind)
-        by_fine given is told quiet true fine = good_is given is (told.0 fine).1
-        by_fine given is told quiet false fine = absurd (told.1 fine quiet)
 
 pub parsed : (words : List Text) → All IsUtf8 words → has_dash_value words ≡ false → fault_of program_app words ≡ [] → Parsed words
 parsed [] utf8 no_dash quiet = absurd (fault-no_words quiet)

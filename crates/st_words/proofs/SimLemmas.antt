@@ -1,5 +1,5 @@
 -- A parse by `clap` of the words behind a name finds their arrangement, or fails.
-use Rattle.std.proofs.Common.{◌≡◌, ◌∙◌, refl, sym, ap, subst, Bool, true, false, ◌&&◌, ℕ, List, [], ◌∷◌, ◌++◌, map, Option, Some, None, codes, true≢false, append_assoc, tt}
+use Rattle.std.proofs.Common.{◌≡◌, ◌∙◌, refl, sym, ap, subst, Bool, true, false, ◌&&◌, ℕ, List, [], ◌∷◌, ◌++◌, map, Option, Some, None, codes, true≢false, append_assoc}
 use Rattle.std.specs.Prelude.{fold, nat_eq, ⊤, ◌==◌, if◌then◌else◌}
 use Rattle.std.specs.List.{All}
 use Rattle.std.specs.Str.{bytes_eq, IsUtf8}
@@ -15,7 +15,7 @@ use Rattle.st_words.proofs.FrontsLemmas.{Kind, is_plain, is_double_dash, is_fuel
 use Rattle.st_words.proofs.DashLemmas.{dash_value-first, dash_value-there, dash_value-other}
 use Rattle.st_words.proofs.DashedLemmas.{Dashed, double, long, short, dashed_is, plain_is, spelled}
 use Rattle.st_words.proofs.RowsLemmas.{row_if}
-use Rattle.st_words.proofs.LeafLemmas.{option_built, rules, leaf, found_now, at, is_free, Good, or_else-parts, total, turn, total-step, total-fault, total-nil, plain-walked, plain-turn, behind-walked, behind-turn, end-walked, end-turn, long-unknown, short-unknown}
+use Rattle.st_words.proofs.LeafLemmas.{option_built, rules, leaf, found_now, at, is_free, Good, or_else-parts, or_else-nil, total, turn, total-step, total-fault, total-nil, plain-walked, plain-turn, behind-walked, behind-turn, end-walked, end-turn, long-unknown, short-unknown}
 use Rattle.st_words.proofs.OptionsWalked.{waiting_held, fuel_joined-walked, fuel_joined-turn, depth_joined-walked, depth_joined-turn, fuel-walked, fuel-turn, depth-walked, depth-turn, fuel_value-walked, fuel_value-turn, depth_value-walked, depth_value-turn, fuel-settles, depth-settles, repeat-none, repeat-some, known, good-plain, good-fuel, good-depth}
 
 -- ---- which arrangements a command takes
@@ -42,6 +42,9 @@ Refused options (Some given) = allowed options given ≡ false
 abbrev pub Tells : Bool → Kinds → Held → Option Arrangement → Type 0
 Tells options wrong end None = wrong ≡ [] → ⊥
 Tells options wrong end (Some given) = (allowed options given ≡ true → (wrong ≡ []) × Good options end given) × (allowed options given ≡ false → wrong ≡ [] → ⊥)
+
+joined-quiet : (a b : Kinds) → a ≡ [] → b ≡ [] → or_else (or_else a (or_else b [])) [] ≡ []
+joined-quiet a b first second = rw (first, second) refl
 
 tells-refused : (options : Bool) (wrong : Kinds) (end : Held) (found : Option Arrangement) → Refused options found → (wrong ≡ [] → ⊥) → Tells options wrong end found
 tells-refused options wrong end None refused no = no
@@ -238,7 +241,7 @@ module _ (name : Text) where
           (total-fault name false (at h waiting false) (codes "--fuel=" ++ value) words (long-unknown name false h waiting (codes "--fuel=" ++ value) (codes "fuel") (Some value) refl refl refl))
       by true all h waiting given free good fine utf8 left [] is =
           let once = repeat-none (codes "fuel") (found_now true h) (good.fuels ∙ ap (row_if (codes "fuel")) is) in
-          let quiet : turn name true (at h waiting false) (codes "--fuel=" ++ value) ≡ [] = fuel_joined-turn name h waiting value ∙ rw (good.quiet, once) refl in
+          let quiet : turn name true (at h waiting false) (codes "--fuel=" ++ value) ≡ [] = fuel_joined-turn name h waiting value ∙ joined-quiet _ _ good.quiet once in
           tells-step true (at h waiting false) _ (codes "--fuel=" ++ value) words _ (fuel_joined-walked name h waiting value) quiet
           (all (reacted (rules true) (option_built (codes "fuel")) (value ∷ []) h) idle (record given { fuels = given.fuels ++ value ∷ [] }) refl
           (good-fuel h (reacted (rules true) (option_built (codes "fuel")) (value ∷ []) h) value given good is refl refl refl)
@@ -266,7 +269,7 @@ module _ (name : Text) where
           (total-fault name false (at h waiting false) (codes "--depth=" ++ value) words (long-unknown name false h waiting (codes "--depth=" ++ value) (codes "depth") (Some value) refl refl refl))
       by true all h waiting given free good fine utf8 left [] is =
           let once = repeat-none (codes "depth") (found_now true h) (good.depths ∙ ap (row_if (codes "depth")) is) in
-          let quiet : turn name true (at h waiting false) (codes "--depth=" ++ value) ≡ [] = depth_joined-turn name h waiting value ∙ rw (good.quiet, once) refl in
+          let quiet : turn name true (at h waiting false) (codes "--depth=" ++ value) ≡ [] = depth_joined-turn name h waiting value ∙ joined-quiet _ _ good.quiet once in
           tells-step true (at h waiting false) _ (codes "--depth=" ++ value) words _ (depth_joined-walked name h waiting value) quiet
           (all (reacted (rules true) (option_built (codes "depth")) (value ∷ []) h) idle (record given { depths = given.depths ++ value ∷ [] }) refl
           (good-depth h (reacted (rules true) (option_built (codes "depth")) (value ∷ []) h) value given good is refl refl refl)
@@ -292,11 +295,11 @@ module _ (name : Text) where
       by given false (Some rest) = none-fuel given rest value
   sim-fuel true [] apart = λ h waiting given free good fine utf8 no_dash.
       tells-step true (at h waiting false) (at (waiting_held (codes "fuel") h) (option (codes "fuel")) false) (codes "--fuel") [] None
-      (fuel-walked name h waiting) (fuel-turn name h waiting ∙ rw good.quiet refl)
+      (fuel-walked name h waiting) (fuel-turn name h waiting ∙ (or_else-nil _ ∙ good.quiet))
       (λ q. absurd (cc (sym (total-nil name true (at (waiting_held (codes "fuel") h) (option (codes "fuel")) false)) ∙ q)))
   sim-fuel true (value ∷ left) apart = λ h waiting given free good fine utf8 no_dash.
       tells-step true (at h waiting false) (at (waiting_held (codes "fuel") h) (option (codes "fuel")) false) (codes "--fuel") (value ∷ left) _
-      (fuel-walked name h waiting) (fuel-turn name h waiting ∙ rw good.quiet refl)
+      (fuel-walked name h waiting) (fuel-turn name h waiting ∙ (or_else-nil _ ∙ good.quiet))
       (by (apart value left refl) h given good fine utf8.1 (sym (dash_value-first (codes "--fuel") (value ∷ left) refl) ∙ no_dash) (is_dashed value) refl (is_dash value) refl given.fuels refl)
     where
       by : Sim true left → (h : Held) (given : Arrangement) → Good true h given → allowed true given ≡ true → All IsUtf8 (value ∷ left) → dash_value_from true (value ∷ left) ≡ false
@@ -316,7 +319,7 @@ module _ (name : Text) where
               prepended-fuel given value (arranged left) ∙ ap (prepended given) (sym (arranged-fuel value left (no_dash_no value none dash))) in
           subst (Tells true (total name true (at (waiting_held (codes "fuel") h) (option (codes "fuel")) false) (value ∷ left)) (end_of true (at (waiting_held (codes "fuel") h) (option (codes "fuel")) false) (value ∷ left))) found
           (tells-step true (at (waiting_held (codes "fuel") h) (option (codes "fuel")) false) (at after idle false) value left _ (fuel_value-walked name h value none) (fuel_value-turn name h value none)
-          (all after idle (record given { fuels = given.fuels ++ value ∷ [] }) refl (good-fuel h after value given good is refl (rw once refl) refl) (fuel-fine given value is fine) utf8.1 next))
+          (all after idle (record given { fuels = given.fuels ++ value ∷ [] }) refl (good-fuel h after value given good is refl (or_else-nil _ ∙ once) refl) (fuel-fine given value is fine) utf8.1 next))
       by all h given good fine utf8 no_dash false none false dash (first ∷ rest) is =
           let after = pushed (codes "fuel") value (waiting_held (codes "fuel") h) in
           let again = repeat-some (codes "fuel") first rest (found_now true h) (good.fuels ∙ ap (row_if (codes "fuel")) is) in
@@ -341,11 +344,11 @@ module _ (name : Text) where
       by given false (Some rest) = none-depth given rest value
   sim-depth true [] apart = λ h waiting given free good fine utf8 no_dash.
       tells-step true (at h waiting false) (at (waiting_held (codes "depth") h) (option (codes "depth")) false) (codes "--depth") [] None
-      (depth-walked name h waiting) (depth-turn name h waiting ∙ rw good.quiet refl)
+      (depth-walked name h waiting) (depth-turn name h waiting ∙ (or_else-nil _ ∙ good.quiet))
       (λ q. absurd (cc (sym (total-nil name true (at (waiting_held (codes "depth") h) (option (codes "depth")) false)) ∙ q)))
   sim-depth true (value ∷ left) apart = λ h waiting given free good fine utf8 no_dash.
       tells-step true (at h waiting false) (at (waiting_held (codes "depth") h) (option (codes "depth")) false) (codes "--depth") (value ∷ left) _
-      (depth-walked name h waiting) (depth-turn name h waiting ∙ rw good.quiet refl)
+      (depth-walked name h waiting) (depth-turn name h waiting ∙ (or_else-nil _ ∙ good.quiet))
       (by (apart value left refl) h given good fine utf8.1 (sym (dash_value-first (codes "--depth") (value ∷ left) refl) ∙ no_dash) (is_dashed value) refl (is_dash value) refl given.depths refl)
     where
       by : Sim true left → (h : Held) (given : Arrangement) → Good true h given → allowed true given ≡ true → All IsUtf8 (value ∷ left) → dash_value_from true (value ∷ left) ≡ false
@@ -365,7 +368,7 @@ module _ (name : Text) where
               prepended-depth given value (arranged left) ∙ ap (prepended given) (sym (arranged-depth value left (no_dash_no value none dash))) in
           subst (Tells true (total name true (at (waiting_held (codes "depth") h) (option (codes "depth")) false) (value ∷ left)) (end_of true (at (waiting_held (codes "depth") h) (option (codes "depth")) false) (value ∷ left))) found
           (tells-step true (at (waiting_held (codes "depth") h) (option (codes "depth")) false) (at after idle false) value left _ (depth_value-walked name h value none) (depth_value-turn name h value none)
-          (all after idle (record given { depths = given.depths ++ value ∷ [] }) refl (good-depth h after value given good is refl (rw once refl) refl) (depth-fine given value is fine) utf8.1 next))
+          (all after idle (record given { depths = given.depths ++ value ∷ [] }) refl (good-depth h after value given good is refl (or_else-nil _ ∙ once) refl) (depth-fine given value is fine) utf8.1 next))
       by all h given good fine utf8 no_dash false none false dash (first ∷ rest) is =
           let after = pushed (codes "depth") value (waiting_held (codes "depth") h) in
           let again = repeat-some (codes "depth") first rest (found_now true h) (good.depths ∙ ap (row_if (codes "depth")) is) in
@@ -381,26 +384,26 @@ module _ (name : Text) where
   sim-unknown : (options : Bool) (word : Text) (words : List Text) → ((behind : List Text) → arranged (word ∷ behind) ≡ None) → Sim options (word ∷ words)
   sim-unknown options word words none = λ h waiting given free good fine utf8 no_dash.
       subst (Tells options (total name options (at h waiting false) (word ∷ words)) (end_of options (at h waiting false) (word ∷ words))) (sym (prepended-none given (arranged (word ∷ words)) (none words)))
-      (by h waiting good utf8.0 (is_dashed word) refl)
+      (by h waiting given good utf8.0 (is_dashed word) refl)
     where
+      with_tests : (id : Text) (value : Option Text) → word ≡ codes "--" ++ spelled id value → (fuel : Bool) → bytes_eq (codes "fuel") id ≡ fuel → (depth : Bool) → bytes_eq (codes "depth") id ≡ depth → arg_by_long (rules true) id ≡ None
+      with_tests id value is false no_fuel false no_depth = known id no_fuel no_depth
+      with_tests id None is true so _ _ =
+          let word_is : word ≡ codes "--fuel" = is ∙ ap (λ i. codes "--" ++ i) (sym ((bytes_decides (codes "fuel") id).0 so)) in
+          absurd (cc (none (codes "a" ∷ []), ap (λ w. arranged (w ∷ codes "a" ∷ [])) word_is, arranged-fuel (codes "a") [] refl))
+      with_tests id (Some v) is true so _ _ =
+          let word_is : word ≡ codes "--fuel=" ++ v = is ∙ ap (λ i. codes "--" ++ i ++ 61 ∷ v) (sym ((bytes_decides (codes "fuel") id).0 so)) in
+          absurd (cc (none [], ap (λ w. arranged (w ∷ [])) word_is, arranged-fuel_joined v []))
+      with_tests id None is false _ true so =
+          let word_is : word ≡ codes "--depth" = is ∙ ap (λ i. codes "--" ++ i) (sym ((bytes_decides (codes "depth") id).0 so)) in
+          absurd (cc (none (codes "a" ∷ []), ap (λ w. arranged (w ∷ codes "a" ∷ [])) word_is, arranged-depth (codes "a") [] refl))
+      with_tests id (Some v) is false _ true so =
+          let word_is : word ≡ codes "--depth=" ++ v = is ∙ ap (λ i. codes "--" ++ i ++ 61 ∷ v) (sym ((bytes_decides (codes "depth") id).0 so)) in
+          absurd (cc (none [], ap (λ w. arranged (w ∷ [])) word_is, arranged-depth_joined v []))
+
       lacks : (options : Bool) (id : Text) (value : Option Text) → word ≡ codes "--" ++ spelled id value → arg_by_long (rules options) id ≡ None
       lacks false id value is = refl
-      lacks true id value is = with_tests value is (bytes_eq (codes "fuel") id) refl (bytes_eq (codes "depth") id) refl
-        where
-          with_tests : (value : Option Text) → word ≡ codes "--" ++ spelled id value → (fuel : Bool) → bytes_eq (codes "fuel") id ≡ fuel → (depth : Bool) → bytes_eq (codes "depth") id ≡ depth → arg_by_long (rules true) id ≡ None
-          with_tests value is false no_fuel false no_depth = known id no_fuel no_depth
-          with_tests None is true so _ _ =
-              let word_is : word ≡ codes "--fuel" = is ∙ ap (λ i. codes "--" ++ i) (sym ((bytes_decides (codes "fuel") id).0 so)) in
-              absurd (cc (none (codes "a" ∷ []), ap (λ w. arranged (w ∷ codes "a" ∷ [])) word_is, arranged-fuel (codes "a") [] refl))
-          with_tests (Some v) is true so _ _ =
-              let word_is : word ≡ codes "--fuel=" ++ v = is ∙ ap (λ i. codes "--" ++ i ++ 61 ∷ v) (sym ((bytes_decides (codes "fuel") id).0 so)) in
-              absurd (cc (none [], ap (λ w. arranged (w ∷ [])) word_is, arranged-fuel_joined v []))
-          with_tests None is false _ true so =
-              let word_is : word ≡ codes "--depth" = is ∙ ap (λ i. codes "--" ++ i) (sym ((bytes_decides (codes "depth") id).0 so)) in
-              absurd (cc (none (codes "a" ∷ []), ap (λ w. arranged (w ∷ codes "a" ∷ [])) word_is, arranged-depth (codes "a") [] refl))
-          with_tests (Some v) is false _ true so =
-              let word_is : word ≡ codes "--depth=" ++ v = is ∙ ap (λ i. codes "--" ++ i ++ 61 ∷ v) (sym ((bytes_decides (codes "depth") id).0 so)) in
-              absurd (cc (none [], ap (λ w. arranged (w ∷ [])) word_is, arranged-depth_joined v []))
+      lacks true id value is = with_tests id value is (bytes_eq (codes "fuel") id) refl (bytes_eq (codes "depth") id) refl
 
       by_kind : (h : Held) (waiting : Waiting) (given : Arrangement) → Good options h given → IsUtf8 word → Dashed word → total name options (at h waiting false) (word ∷ words) ≡ [] → ⊥
       by_kind h waiting given good utf8 (double is) quiet = absurd (cc (none [], ap (λ w. arranged (w ∷ [])) is, arranged-end []))
@@ -409,9 +412,9 @@ module _ (name : Text) where
       by_kind h waiting given good utf8 (short x xs no_end no_long is word_is) quiet =
           total-fault name options (at h waiting false) word words (short-unknown name options h waiting word x xs good.skip utf8 word_is no_end no_long is) quiet
 
-      by : {given : Arrangement} (h : Held) (waiting : Waiting) → Good options h given → IsUtf8 word → (dashed : Bool) → is_dashed word ≡ dashed → total name options (at h waiting false) (word ∷ words) ≡ [] → ⊥
-      by {given} h waiting good utf8 true dashed quiet = by_kind h waiting given good utf8 (dashed_is word dashed) quiet
-      by {given} h waiting good utf8 false plain quiet = absurd (cc (none [], arranged-plain word [] plain))
+      by : (h : Held) (waiting : Waiting) (given : Arrangement) → Good options h given → IsUtf8 word → (dashed : Bool) → is_dashed word ≡ dashed → total name options (at h waiting false) (word ∷ words) ≡ [] → ⊥
+      by h waiting given good utf8 true dashed quiet = by_kind h waiting given good utf8 (dashed_is word dashed) quiet
+      by h waiting given good utf8 false plain quiet = absurd (cc (none [], arranged-plain word [] plain))
 
   sim-front : (options : Bool) (word : Text) (words : List Text) → Kind word → Sim options words → ((value : Text) (left : List Text) → words ≡ value ∷ left → Sim options left) → Sim options (word ∷ words)
   sim-front options word words (is_plain none) all apart = sim-plain options word words none all
