@@ -1,13 +1,13 @@
 -- What is wrong with the words of a command, level by level.
 use Rattle.std.proofs.Common.{◌≡◌, ◌∙◌, refl, sym, ap, subst, Bool, true, false, cond, ◌&&◌, ◌||◌, ℕ, List, [], ◌∷◌, ◌++◌, map, Option, Some, None, codes, append_assoc, inl, inr}
 use Rattle.std.specs.Prelude.{fold, find, is_some, option_map, ◌⊎◌}
-use Rattle.std.specs.List.{All}
+use Rattle.std.specs.List.{AllByRecursion as All}
 use Rattle.std.specs.Str.{bytes_eq, IsUtf8}
 use Rattle.std.specs.Cmp.Lexicographic.{bytes_decides}
 use Rattle.std.proofs.lemmas.List.{append-nil}
 use Rattle.clap.specs.Walk.{Held, Names, Row, Rule, Text, Walk, idle, answers_to, finished, has_row, nothing_held, rows_after, settled, subcommand_met, walk, walk_from, walked, with_default}
 use Rattle.clap.specs.Simple.{App, Shape, built, entered, label_of, names_of, rows_at, subcommand_of}
-use Rattle.clap.specs.Faults.{check_fault, default_fault, defaults_fault, entered_fault, fault_of, flags_fault, level_fault, settle_fault, turn_fault, walk_fault}
+use Rattle.clap.specs.Faults.{check_fault, default_fault, defaults_fault, entered_fault, fault_of, flags_fault, given_default_fault, level_fault, settle_fault, turn_fault, walk_fault}
 use Rattle.clap.specs.Kinds.{Kinds, or_else}
 use Rattle.st_words.specs.declared.arrangement.Arrangement.{Arrangement}
 use Rattle.st_words.specs.declared.command.Command.{Command}
@@ -42,7 +42,7 @@ fold-kept true rows =
 fold-kept false rows = kept rows plain_built refl
 
 default-none : (rows : List Row) (a : Rule) → a.defaults ≡ [] → default_fault rows a ≡ []
-default-none rows a is = rw is (by (has_row a.id rows) _)
+default-none rows a is = rw is (by (has_row a.id rows) (given_default_fault a []))
   where
     by : (b : Bool) (k : Kinds) → cond (b || true) [] k ≡ []
     by true k = refl

@@ -1,7 +1,7 @@
 -- What a parse by `clap` tells of the words.
 use Rattle.std.proofs.Common.{◌≡◌, ◌∙◌, refl, sym, ap, subst, Bool, true, false, ℕ, List, [], ◌∷◌, map, Option, Some, None, inl, inr, codes, true≢false, String, Global, string_bytes, ◌++◌}
 use Rattle.std.specs.Prelude.{option_map, ◌⊎◌}
-use Rattle.std.specs.List.{All}
+use Rattle.std.specs.List.{AllByRecursion as All}
 use Rattle.std.specs.Prelude.{Box}
 use Rattle.std.specs.Box.{box_value}
 use Rattle.std.proofs.lemmas.Str.{IsUtf8-string_bytes}

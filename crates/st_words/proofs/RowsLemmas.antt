@@ -3,7 +3,7 @@ use Rattle.std.proofs.Common.{◌≡◌, ◌∙◌, refl, sym, ap, Bool, true, f
 use Rattle.std.specs.Prelude.{find, is_some, unwrap_or}
 use Rattle.std.specs.Str.{bytes_eq}
 use Rattle.std.specs.Cmp.Lexicographic.{bytes_decides}
-use Rattle.clap.specs.Walk.{Row, Text, more_values, with_values, without, has_row}
+use Rattle.clap.specs.Walk.{Row, Text, more_values, stronger, with_values, without, has_row}
 use Rattle.clap.specs.declared.builder.value_parser.Reading.TheVariants.{AsWritten}
 use Rattle.clap.specs.declared.parser.matches.ValueSource.TheVariants.{CommandLine}
 
@@ -33,7 +33,7 @@ look-other id other value [] apart = rw apart refl
 look-other id other value (r ∷ rows) apart = by (look-other id other value rows apart) (bytes_eq r.id id) refl
   where
     changed : (r : Row) → bytes_eq r.id other ≡ false → look other (more_values CommandLine (value ∷ []) r ++ rows) ≡ look other (r ∷ rows)
-    changed r no = rw no refl
+    changed r other_id = rw other_id refl
 
     by : look other (one_more id value rows) ≡ look other rows → (b : Bool) → bytes_eq r.id id ≡ b → look other (one_more id value (r ∷ rows)) ≡ look other (r ∷ rows)
     by more true is = rw is (changed r (differ id other r.id apart is))
@@ -51,7 +51,7 @@ look-same id value values (r ∷ rows) self is = by (λ so. look-same id value v
     changed [] q same so = absurd (cc so)
     changed (v ∷ vs) q same so =
         let q_is : q ≡ row_with id (v ∷ vs) = ap (λ o. unwrap_or o q) so in
-        rw same (ap (λ (p : Row). Some (record p { values = p.values ++ value ∷ []; source = Some CommandLine })) q_is)
+        rw same (ap (λ (p : Row). Some (record p { values = p.values ++ value ∷ []; source = Some (stronger p.source CommandLine) })) q_is)
 
     by : (look id rows ≡ row_if id values → look id (one_more id value rows) ≡ row_if id (values ++ value ∷ []))
         → (b : Bool) → bytes_eq r.id id ≡ b → look id (one_more id value (r ∷ rows)) ≡ row_if id (values ++ value ∷ [])

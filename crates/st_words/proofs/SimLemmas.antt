@@ -1,7 +1,7 @@
 -- A parse by `clap` of the words behind a name finds their arrangement, or fails.
 use Rattle.std.proofs.Common.{◌≡◌, ◌∙◌, refl, sym, ap, subst, Bool, true, false, ◌&&◌, ℕ, List, [], ◌∷◌, ◌++◌, map, Option, Some, None, codes, true≢false, append_assoc}
 use Rattle.std.specs.Prelude.{fold, nat_eq, ⊤, ◌==◌, if◌then◌else◌}
-use Rattle.std.specs.List.{All}
+use Rattle.std.specs.List.{AllByRecursion as All}
 use Rattle.std.specs.Str.{bytes_eq, IsUtf8}
 use Rattle.std.specs.Cmp.Lexicographic.{pointwise, bytes_decides}
 use Rattle.std.proofs.lemmas.List.{append-nil}
@@ -31,8 +31,9 @@ is_none (value ∷ values) = false
 
 -- each option at most once, or no option
 abbrev pub allowed : Bool → Arrangement → Bool
-allowed true given = at_most_one given.fuels && at_most_one given.depths
-allowed false given = is_none given.fuels && is_none given.depths
+allowed options given =
+    if options then at_most_one given.fuels && at_most_one given.depths
+    else is_none given.fuels && is_none given.depths
 
 abbrev pub Refused : Bool → Option Arrangement → Type 0
 Refused options None = ⊤
@@ -47,8 +48,8 @@ joined-quiet : (a b : Kinds) → a ≡ [] → b ≡ [] → or_else (or_else a (o
 joined-quiet a b first second = rw (first, second) refl
 
 tells-refused : (options : Bool) (wrong : Kinds) (end : Held) (found : Option Arrangement) → Refused options found → (wrong ≡ [] → ⊥) → Tells options wrong end found
-tells-refused options wrong end None refused no = no
-tells-refused options wrong end (Some given) refused no = (λ yes. absurd (true≢false (sym yes ∙ refused)), λ _. no)
+tells-refused options wrong end None refused fails = fails
+tells-refused options wrong end (Some given) refused fails = (λ fine. absurd (true≢false (sym fine ∙ refused)), λ _. fails)
 
 and-right : (a b : Bool) → b ≡ false → (a && b) ≡ false
 and-right true b is = is
@@ -158,8 +159,8 @@ module _ (name : Text) where
   tells-behind : (options : Bool) (words : List Text) (h : Held) (waiting : Waiting) (given : Arrangement) → Good options h given → allowed options given ≡ true
       → Tells options (total name options (at h waiting true) words) (end_of options (at h waiting true) words) (Some (record given { plain = given.plain ++ words }))
   tells-behind options [] h waiting given good fine = (
-    λ yes. (total-nil name options (at h waiting true) ∙ good.quiet, subst (λ ps. Good options h (record given { plain = ps })) (sym (append-nil given.plain)) good),
-    λ no. absurd (true≢false (sym fine ∙ no)),
+    λ fine_now. (total-nil name options (at h waiting true) ∙ good.quiet, subst (λ ps. Good options h (record given { plain = ps })) (sym (append-nil given.plain)) good),
+    λ over. absurd (true≢false (sym fine ∙ over)),
   )
   tells-behind options (word ∷ words) h waiting given good fine =
       tells-step options (at h waiting true) _ word words _ (behind-walked name options h waiting word) (behind-turn name options h waiting word ∙ good.quiet)
@@ -221,7 +222,7 @@ module _ (name : Text) where
       let found : Some (record given { plain = given.plain ++ words }) ≡ prepended given (arranged (codes "--" ∷ words)) =
           sym (ap (prepended given) (arranged-end words) ∙ prepended-all given words) in
       subst (Tells options (total name options (at h waiting false) (codes "--" ∷ words)) (end_of options (at h waiting false) (codes "--" ∷ words))) found
-      (tells-step options (at h waiting false) (at h waiting true) (codes "--") words _ (end-walked name options h waiting) (end-turn name options h waiting)
+      (tells-step options (at h waiting false) (at h waiting true) (codes "--") words (Some (record given { plain = given.plain ++ words })) (end-walked name options h waiting) (end-turn name options h waiting)
       (tells-behind options words h waiting given good fine))
 
   -- the option with its value in one word
@@ -427,8 +428,8 @@ module _ (name : Text) where
 
   sim-nil : (options : Bool) → Sim options []
   sim-nil options = λ h waiting given free good fine utf8 no_dash. (
-    λ yes. (total-nil name options (at h waiting false) ∙ good.quiet, subst (Good options h) (sym (nothing_more given)) good),
-    λ no. absurd (true≢false (sym fine ∙ ap (allowed options) (sym (nothing_more given)) ∙ no)),
+    λ fine_now. (total-nil name options (at h waiting false) ∙ good.quiet, subst (Good options h) (sym (nothing_more given)) good),
+    λ over. absurd (true≢false (sym fine ∙ ap (allowed options) (sym (nothing_more given)) ∙ over)),
   )
     where
       nothing_more : (given : Arrangement) → record { plain = given.plain ++ []; fuels = given.fuels ++ []; depths = given.depths ++ [] } ≡ given

@@ -12,4 +12,7 @@ loop-name-init c = settings_app (out-Command c.new.result) (out-Command c.no_bin
     c.new.ensures.app c.no_binary_name.ensures c.disable_help_flag.ensures c.disable_help_subcommand.ensures c.disable_version_flag.ensures c.subcommand_required-program.ensures
 
 pub loop-name-preserved : goal.loop-name-preserved
-loop-name-preserved c = ?
+loop-name-preserved c =
+    c.in_ok-program.ensures.shape c.in_ok-command_named.ensures.local
+    ∙ ap₂ with_subcommand c.loop-name.invariant c.in_ok-command_named.ensures.shape
+    ∙ one_more_command c.loop-name.name-index _ (omega arith)
