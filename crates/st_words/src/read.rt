@@ -15,7 +15,8 @@ pub fn read_words(alloc: Global, words: &[String]) -> Result<Command, WordsFault
     ensures only { IfOk result (λ command. IsOnlyReading (map string_bytes words.now) command) }
     ensures usage { IfErr result (λ fault. TellsUsage (map string_bytes words.now) fault) }
 {
-    let (name, given) = arrange(alloc, words)?;
+    let found = arrange(alloc, words)?;
+    let (name, given) = found;
     command_of(name, given)
 }
 
