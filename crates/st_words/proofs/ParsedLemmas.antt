@@ -44,19 +44,19 @@ use Rattle.st_words.proofs.LevelLemmas.{leaf_fault, leaf-quiet, leaf-passes, lea
 
 -- ---- which command a word names
 
-from_all : {P : CommandName → Type 0} → All P all_names → (name : CommandName) → P name
-from_all a Check = a.0
-from_all a Il = a.1.0
-from_all a Groups = a.1.1.0
-from_all a Order = a.1.1.1.0
-from_all a Eval = a.1.1.1.1.0
-from_all a Next = a.1.1.1.1.1.0
-from_all a Run = a.1.1.1.1.1.1.0
-from_all a Derive = a.1.1.1.1.1.1.1.0
-from_all a Verify = a.1.1.1.1.1.1.1.1.0
-from_all a Prose = a.1.1.1.1.1.1.1.1.1.0
-from_all a Latex = a.1.1.1.1.1.1.1.1.1.1.0
-from_all a Make = a.1.1.1.1.1.1.1.1.1.1.1.0
+from_all : (P : CommandName → Type 0) → All P all_names → (name : CommandName) → P name
+from_all P a Check = a.0
+from_all P a Il = a.1.0
+from_all P a Groups = a.1.1.0
+from_all P a Order = a.1.1.1.0
+from_all P a Eval = a.1.1.1.1.0
+from_all P a Next = a.1.1.1.1.1.0
+from_all P a Run = a.1.1.1.1.1.1.0
+from_all P a Derive = a.1.1.1.1.1.1.1.0
+from_all P a Verify = a.1.1.1.1.1.1.1.1.0
+from_all P a Prose = a.1.1.1.1.1.1.1.1.1.0
+from_all P a Latex = a.1.1.1.1.1.1.1.1.1.1.0
+from_all P a Make = a.1.1.1.1.1.1.1.1.1.1.1.0
 
 abbrev Named : Text → Type 0
 Named word = (name : CommandName) × (word ≡ name_spelling name)
@@ -183,7 +183,7 @@ parsed [] utf8 no_dash quiet = absurd (fault-no_words quiet)
 parsed (word ∷ words) utf8 no_dash quiet = by (search_name word all_names)
   where
     by : Named word ⊎ All (λ name. ¬ (word ≡ name_spelling name)) all_names → Parsed (word ∷ words)
-    by (inr none) = absurd (fault-no_name word words (from_all none) utf8.0 quiet)
+    by (inr none) = absurd (fault-no_name word words (from_all (λ name. ¬ (word ≡ name_spelling name)) none) utf8.0 quiet)
     by (inl (name, is)) =
         subst (λ w. Parsed (w ∷ words)) (sym is)
         (parsed-name name words utf8.1 (sym (behind-name name words) ∙ ap (λ w. has_dash_value (w ∷ words)) (sym is) ∙ no_dash) (ap (λ w. fault_of program_app (w ∷ words)) (sym is) ∙ quiet))

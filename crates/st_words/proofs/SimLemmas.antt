@@ -163,7 +163,7 @@ module _ (name : Text) where
     λ over. absurd (true≢false (sym fine ∙ over)),
   )
   tells-behind options (word ∷ words) h waiting given good fine =
-      tells-step options (at h waiting true) _ word words _ (behind-walked name options h waiting word) (behind-turn name options h waiting word ∙ good.quiet)
+      tells-step options (at h waiting true) _ word words (Some (record given { plain = given.plain ++ word ∷ words })) (behind-walked name options h waiting word) (behind-turn name options h waiting word ∙ good.quiet)
       (subst (λ ps. Tells options (total name options (at (pushed (codes "words") word (settled (rules options) h)) positional true) words) (end_of options (at (pushed (codes "words") word (settled (rules options) h)) positional true) words) (Some (record given { plain = ps })))
       (append_assoc given.plain (word ∷ []) words)
       (tells-behind options words (pushed (codes "words") word (settled (rules options) h)) positional (record given { plain = given.plain ++ word ∷ [] }) (good-plain options h word given good) fine))

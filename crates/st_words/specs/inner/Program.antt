@@ -1,7 +1,7 @@
 -- What a parse by `clap` reads of the commands.
 use Rattle.std.specs.Prelude.{ℕ, List, [], ◌∷◌, ◌++◌, map, codes, Bool, true, false, Some, if◌then◌else◌}
 use Rattle.clap.specs.Simple.{App, Shape, new_rule, new_shape}
-use Rattle.clap.specs.Walk.{Rule, is_empty}
+use Rattle.clap.specs.Walk.{Rule}
 use Rattle.clap.specs.declared.builder.action.ArgAction.TheVariants.{Set, Append}
 use Rattle.st_words.specs.declared.name.CommandName.{CommandName}
 use Rattle.st_words.specs.declared.name.CommandName.TheVariants.{Check, Il, Groups, Order, Eval, Next, Run, Derive, Verify, Prose, Latex, Make}
@@ -33,11 +33,15 @@ shape_with name options =
 abbrev pub shape_named : CommandName → Shape
 shape_named name = shape_with (name_spelling name) (takes_options name)
 
+abbrev are_none : List Shape → Bool
+are_none [] = true
+are_none (command ∷ commands) = false
+
 -- the command whose subcommands are these
 abbrev pub program_with : List Shape → App
 program_with commands = record {
   top = record (new_shape (codes "spectec")) {
-    is_leaf = is_empty commands;
+    is_leaf = are_none commands;
     no_binary_name = true;
     disable_help_flag = true;
     disable_help_subcommand = true;

@@ -6,9 +6,9 @@ use Rattle.st_words.proofs.read.read_words.Goals as goal
 pub returns-clause-only : goal.returns-clause-only
 returns-clause-only c =
     let is = c.in_ok-found.ensures.ok in
-    only_reading (map string_bytes c.args.words.now) is.0 (name_spelling c.in_ok-found.found.0) c.in_ok-found.found.0 c.in_ok-found.found.1 is.1.0 refl is.1.1 c.command_of.result c.command_of.ensures
+    only_reading (map string_bytes c.args.words.now) is.0 (name_spelling c.in_ok-found.found.0) c.in_ok-found.found.0 c.in_ok-found.found.1 is.1 refl is.2 c.command_of.result c.command_of.ensures
 
 pub returns-clause-usage : goal.returns-clause-usage
 returns-clause-usage c =
     let is = c.in_ok-found.ensures.ok in
-    tells_usage (map string_bytes c.args.words.now) is.0 (name_spelling c.in_ok-found.found.0) c.in_ok-found.found.0 c.in_ok-found.found.1 is.1.0 refl is.1.1 c.command_of.result c.command_of.ensures
+    tells_usage (map string_bytes c.args.words.now) is.0 (name_spelling c.in_ok-found.found.0) c.in_ok-found.found.0 c.in_ok-found.found.1 is.1 refl is.2 c.command_of.result c.command_of.ensures
