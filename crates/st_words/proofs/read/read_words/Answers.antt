@@ -1,7 +1,10 @@
-use Rattle.std.proofs.Common.{refl, map, string_bytes}
+use Rattle.std.proofs.Common.{refl, ap, map, string_bytes, Err}
 use Rattle.st_words.specs.Names.{name_spelling}
-use Rattle.st_words.proofs.ReadsLemmas.{only_reading, tells_usage}
+use Rattle.st_words.proofs.ReadsLemmas.{only_reading, tells, tells_usage}
 use Rattle.st_words.proofs.read.read_words.Goals as goal
+
+pub returns-in_err-found-clause-usage : goal.returns-in_err-found-clause-usage
+returns-in_err-found-clause-usage c = tells _ _ (λ is. c.in_err-found.ensures.usage (ap Err is))
 
 pub returns-clause-only : goal.returns-clause-only
 returns-clause-only c =
