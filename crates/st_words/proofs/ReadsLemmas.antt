@@ -61,7 +61,11 @@ module _ (words behind : List (List ℕ)) (word : List ℕ) (name : CommandName)
   tells_usage (Err Usage) is = λ command so. is command (asked command so)
   tells_usage (Err Memory) is = tt
 
--- a fault tells what usage tells, where it is usage
-pub tells : (words : List (List ℕ)) (fault : WordsFault) → (fault ≡ Usage → HasNoReading words) → TellsUsage words fault
+tells : (words : List (List ℕ)) (fault : WordsFault) → (fault ≡ Usage → HasNoReading words) → TellsUsage words fault
 tells words Usage says = says refl
 tells words Memory says = tt
+
+-- a fault tells what usage tells, where it is usage
+pub tells-err : (words : List (List ℕ)) (result : Result Command WordsFault) (fault : WordsFault) → result ≡ Err fault → (fault ≡ Usage → HasNoReading words) → IfErr result (λ f. TellsUsage words f)
+tells-err words (Ok command) fault is says = tt
+tells-err words (Err f) fault is says = tells words f (λ e. says (cc (is, e)))

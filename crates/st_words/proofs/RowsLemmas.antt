@@ -39,8 +39,8 @@ look-other id other value (r ∷ rows) apart = by (look-other id other value row
     by more true is = rw is (changed r (differ id other r.id apart is))
     by more false is = rw is (ap (λ found. cond (bytes_eq r.id other) (Some r) found) more)
 
-past : {id : Text} (r : Row) (rows : List Row) → bytes_eq r.id id ≡ false → look id (r ∷ rows) ≡ look id rows
-past r rows other = rw other refl
+past : (id : Text) (r : Row) (rows : List Row) → bytes_eq r.id id ≡ false → look id (r ∷ rows) ≡ look id rows
+past id r rows other = rw other refl
 
 -- the argument has one value more
 pub look-same : (id value : Text) (values : List Text) (rows : List Row) → bytes_eq id id ≡ true → look id rows ≡ row_if id values
@@ -59,7 +59,7 @@ look-same id value values (r ∷ rows) self is = by (λ so. look-same id value v
     by : (look id rows ≡ row_if id values → look id (one_more id value rows) ≡ row_if id (values ++ value ∷ []))
         → (b : Bool) → bytes_eq r.id id ≡ b → look id (one_more id value (r ∷ rows)) ≡ row_if id (values ++ value ∷ [])
     by more true same = rw same (changed values r same (rw same at is))
-    by more false other = rw other (past r (one_more id value rows) other ∙ more (rw other at is))
+    by more false other = rw other (past id r (one_more id value rows) other ∙ more (rw other at is))
 
 -- an argument that was not found has no row to take out
 pub without-none : (id : Text) (rows : List Row) → look id rows ≡ None → without id rows ≡ rows
