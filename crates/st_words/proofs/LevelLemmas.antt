@@ -83,7 +83,7 @@ leaf-passes name options words given value values some is good =
     let end = end_of name options (at nothing_held idle false) words in
     let first = or_else-parts _ _ is in
     let there : look (codes "words") (finished (rules options) end) ≡ Some (row_with (codes "words") (value ∷ values)) =
-        ap (look (codes "words")) (fold-kept options (found_now options end)) ∙ good.plain ∙ ap (row_if (codes "words")) some in
+    ap (look (codes "words")) (fold-kept options (found_now options end)) ∙ good.plain ∙ ap (row_if (codes "words")) some in
     ap (λ k. or_else k (or_else (settle_fault (rules options) false end) (or_else (defaults_fault (settled (rules options) end).rows (rules options)) (check_fault (leaf name options) (finished (rules options) end) false)))) first.0
     ∙ ap (λ k. or_else k (or_else (defaults_fault (settled (rules options) end).rows (rules options)) (check_fault (leaf name options) (finished (rules options) end) false))) first.1
     ∙ ap (λ k. or_else k (check_fault (leaf name options) (finished (rules options) end) false)) (defaults-none options (settled (rules options) end).rows)
@@ -170,7 +170,7 @@ fault-name name words =
 pub subcommand-name : (name : CommandName) (words : List Text) → subcommand_of program_app (name_spelling name ∷ words) ≡ Some (rows_at (leaf (name_spelling name) (takes_options name)) words)
 subcommand-name name words =
     let end : entered (built program_app) (walk top.rules names nothing_held (name_spelling name ∷ words)).stopped ≡ entered (built program_app) (Some (name_spelling name, words)) =
-        ap (λ (w : Walk). entered (built program_app) w.stopped) (walk-name name words) in
+    ap (λ (w : Walk). entered (built program_app) w.stopped) (walk-name name words) in
     end ∙ rw (find_leaf name) refl
 
 -- a word that names no command

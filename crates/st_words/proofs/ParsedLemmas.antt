@@ -122,7 +122,7 @@ passes-name : (name : CommandName) (behind : List Text) (given : Arrangement) (c
 passes-name name behind given command utf8 no_dash right asks =
     let (fine, (value, values, some)) = asks-fine name given command asks in
     let told = subst (Tells (takes_options name) (total (name_spelling name) (takes_options name) (at nothing_held idle false) behind) (end_of (name_spelling name) (takes_options name) (at nothing_held idle false) behind))
-        (arranged-complete behind given right) (leaf-tells (name_spelling name) (takes_options name) behind utf8 no_dash) in
+    (arranged-complete behind given right) (leaf-tells (name_spelling name) (takes_options name) behind utf8 no_dash) in
     let (quiet, good) = told.0 fine in
     fault-name name behind ∙ leaf-passes (name_spelling name) (takes_options name) behind given value values some quiet good
 

@@ -18,10 +18,10 @@ pub settings_app : (made binary flag subcommand version required : Command-F Com
     → app_of_fields required ≡ program_with []
 settings_app made binary flag subcommand version required made_is binary_is flag_is subcommand_is version_is required_is =
     let all : required ≡ record made { no_binary_name = true; disable_help_flag = true; disable_help_subcommand = true; disable_version_flag = true; subcommand_required = true } =
-        required_is ∙ ap (λ (f : Command-F Command). record f { subcommand_required = true }) (version_is
-        ∙ ap (λ (f : Command-F Command). record f { disable_version_flag = true }) (subcommand_is
-        ∙ ap (λ (f : Command-F Command). record f { disable_help_subcommand = true }) (flag_is
-        ∙ ap (λ (f : Command-F Command). record f { disable_help_flag = true }) binary_is))) in
+    required_is ∙ ap (λ (f : Command-F Command). record f { subcommand_required = true }) (version_is
+    ∙ ap (λ (f : Command-F Command). record f { disable_version_flag = true }) (subcommand_is
+    ∙ ap (λ (f : Command-F Command). record f { disable_help_subcommand = true }) (flag_is
+    ∙ ap (λ (f : Command-F Command). record f { disable_help_flag = true }) binary_is))) in
     ap app_of_fields all
     ∙ ap (λ (a : App). record a { top = record a.top { no_binary_name = true; disable_help_flag = true; disable_help_subcommand = true; disable_version_flag = true; subcommand_required = true } }) made_is
 

@@ -212,7 +212,7 @@ module _ (name : Text) where
   sim-plain options word words none all = λ h waiting given free good fine utf8 no_dash.
       let left : dash_value_from false words ≡ false = ap (λ b. dash_value_from b words) (sym (names_none word none)) ∙ sym (dash_value-first word words (plain_is word none).0) ∙ no_dash in
       let found : prepended (record given { plain = given.plain ++ word ∷ [] }) (arranged words) ≡ prepended given (arranged (word ∷ words)) =
-          prepended-plain given word (arranged words) ∙ ap (prepended given) (sym (arranged-plain word words none)) in
+      prepended-plain given word (arranged words) ∙ ap (prepended given) (sym (arranged-plain word words none)) in
       subst (Tells options (total name options (at h waiting false) (word ∷ words)) (end_of options (at h waiting false) (word ∷ words))) found
       (tells-step options (at h waiting false) _ word words _ (plain-walked name options h waiting word free none) (plain-turn name options h waiting word free none ∙ good.quiet)
       (all (pushed (codes "words") word (settled (rules options) h)) positional (record given { plain = given.plain ++ word ∷ [] }) refl (good-plain options h word given good) fine utf8.1 left))
@@ -220,7 +220,7 @@ module _ (name : Text) where
   sim-end : (options : Bool) (words : List Text) → Sim options (codes "--" ∷ words)
   sim-end options words = λ h waiting given free good fine utf8 no_dash.
       let found : Some (record given { plain = given.plain ++ words }) ≡ prepended given (arranged (codes "--" ∷ words)) =
-          sym (ap (prepended given) (arranged-end words) ∙ prepended-all given words) in
+      sym (ap (prepended given) (arranged-end words) ∙ prepended-all given words) in
       subst (Tells options (total name options (at h waiting false) (codes "--" ∷ words)) (end_of options (at h waiting false) (codes "--" ∷ words))) found
       (tells-step options (at h waiting false) (at h waiting true) (codes "--") words (Some (record given { plain = given.plain ++ words })) (end-walked name options h waiting) (end-turn name options h waiting)
       (tells-behind options words h waiting given good fine))
@@ -230,7 +230,7 @@ module _ (name : Text) where
   sim-fuel_joined options value words all = λ h waiting given free good fine utf8 no_dash.
       let left : dash_value_from false words ≡ false = sym (dash_value-first (codes "--fuel=" ++ value) words refl) ∙ no_dash in
       let found : prepended (record given { fuels = given.fuels ++ value ∷ [] }) (arranged words) ≡ prepended given (arranged ((codes "--fuel=" ++ value) ∷ words)) =
-          prepended-fuel given value (arranged words) ∙ ap (prepended given) (sym (arranged-fuel_joined value words)) in
+      prepended-fuel given value (arranged words) ∙ ap (prepended given) (sym (arranged-fuel_joined value words)) in
       subst (Tells options (total name options (at h waiting false) ((codes "--fuel=" ++ value) ∷ words)) (end_of options (at h waiting false) ((codes "--fuel=" ++ value) ∷ words))) found
       (by options all h waiting given free good fine utf8.1 left given.fuels refl)
     where
@@ -258,7 +258,7 @@ module _ (name : Text) where
   sim-depth_joined options value words all = λ h waiting given free good fine utf8 no_dash.
       let left : dash_value_from false words ≡ false = sym (dash_value-first (codes "--depth=" ++ value) words refl) ∙ no_dash in
       let found : prepended (record given { depths = given.depths ++ value ∷ [] }) (arranged words) ≡ prepended given (arranged ((codes "--depth=" ++ value) ∷ words)) =
-          prepended-depth given value (arranged words) ∙ ap (prepended given) (sym (arranged-depth_joined value words)) in
+      prepended-depth given value (arranged words) ∙ ap (prepended given) (sym (arranged-depth_joined value words)) in
       subst (Tells options (total name options (at h waiting false) ((codes "--depth=" ++ value) ∷ words)) (end_of options (at h waiting false) ((codes "--depth=" ++ value) ∷ words))) found
       (by options all h waiting given free good fine utf8.1 left given.depths refl)
     where
@@ -317,7 +317,7 @@ module _ (name : Text) where
           let once = repeat-none (codes "fuel") (found_now true h) (good.fuels ∙ ap (row_if (codes "fuel")) is) in
           let next : dash_value_from false left ≡ false = ap (λ b. dash_value_from b left) (sym (names_none value none)) ∙ sym (dash_value-other true value left (plain_is value none).0 dash) ∙ no_dash in
           let found : prepended (record given { fuels = given.fuels ++ value ∷ [] }) (arranged left) ≡ prepended given (arranged (codes "--fuel" ∷ value ∷ left)) =
-              prepended-fuel given value (arranged left) ∙ ap (prepended given) (sym (arranged-fuel value left (no_dash_no value none dash))) in
+          prepended-fuel given value (arranged left) ∙ ap (prepended given) (sym (arranged-fuel value left (no_dash_no value none dash))) in
           subst (Tells true (total name true (at (waiting_held (codes "fuel") h) (option (codes "fuel")) false) (value ∷ left)) (end_of true (at (waiting_held (codes "fuel") h) (option (codes "fuel")) false) (value ∷ left))) found
           (tells-step true (at (waiting_held (codes "fuel") h) (option (codes "fuel")) false) (at after idle false) value left _ (fuel_value-walked name h value none) (fuel_value-turn name h value none)
           (all after idle (record given { fuels = given.fuels ++ value ∷ [] }) refl (good-fuel h after value given good is refl (or_else-nil _ ∙ once) refl) (fuel-fine given value is fine) utf8.1 next))
@@ -326,7 +326,7 @@ module _ (name : Text) where
           let again = repeat-some (codes "fuel") first rest (found_now true h) (good.fuels ∙ ap (row_if (codes "fuel")) is) in
           let over : at_most_one (given.fuels ++ value ∷ []) ≡ false = ap (λ fs. at_most_one (fs ++ value ∷ [])) is ∙ twice first value rest in
           let found : prepended (record given { fuels = given.fuels ++ value ∷ [] }) (arranged left) ≡ prepended given (arranged (codes "--fuel" ∷ value ∷ left)) =
-              prepended-fuel given value (arranged left) ∙ ap (prepended given) (sym (arranged-fuel value left (no_dash_no value none dash))) in
+          prepended-fuel given value (arranged left) ∙ ap (prepended given) (sym (arranged-fuel value left (no_dash_no value none dash))) in
           subst (Tells true (total name true (at (waiting_held (codes "fuel") h) (option (codes "fuel")) false) (value ∷ left)) (end_of true (at (waiting_held (codes "fuel") h) (option (codes "fuel")) false) (value ∷ left))) found
           (tells-step true (at (waiting_held (codes "fuel") h) (option (codes "fuel")) false) (at after idle false) value left _ (fuel_value-walked name h value none) (fuel_value-turn name h value none)
           (tells-refused true _ _ _ (refused-more true (record given { fuels = given.fuels ++ value ∷ [] }) (arranged left) (fuel-over given value over))
@@ -366,7 +366,7 @@ module _ (name : Text) where
           let once = repeat-none (codes "depth") (found_now true h) (good.depths ∙ ap (row_if (codes "depth")) is) in
           let next : dash_value_from false left ≡ false = ap (λ b. dash_value_from b left) (sym (names_none value none)) ∙ sym (dash_value-other true value left (plain_is value none).0 dash) ∙ no_dash in
           let found : prepended (record given { depths = given.depths ++ value ∷ [] }) (arranged left) ≡ prepended given (arranged (codes "--depth" ∷ value ∷ left)) =
-              prepended-depth given value (arranged left) ∙ ap (prepended given) (sym (arranged-depth value left (no_dash_no value none dash))) in
+          prepended-depth given value (arranged left) ∙ ap (prepended given) (sym (arranged-depth value left (no_dash_no value none dash))) in
           subst (Tells true (total name true (at (waiting_held (codes "depth") h) (option (codes "depth")) false) (value ∷ left)) (end_of true (at (waiting_held (codes "depth") h) (option (codes "depth")) false) (value ∷ left))) found
           (tells-step true (at (waiting_held (codes "depth") h) (option (codes "depth")) false) (at after idle false) value left _ (depth_value-walked name h value none) (depth_value-turn name h value none)
           (all after idle (record given { depths = given.depths ++ value ∷ [] }) refl (good-depth h after value given good is refl (or_else-nil _ ∙ once) refl) (depth-fine given value is fine) utf8.1 next))
@@ -375,7 +375,7 @@ module _ (name : Text) where
           let again = repeat-some (codes "depth") first rest (found_now true h) (good.depths ∙ ap (row_if (codes "depth")) is) in
           let over : at_most_one (given.depths ++ value ∷ []) ≡ false = ap (λ fs. at_most_one (fs ++ value ∷ [])) is ∙ twice first value rest in
           let found : prepended (record given { depths = given.depths ++ value ∷ [] }) (arranged left) ≡ prepended given (arranged (codes "--depth" ∷ value ∷ left)) =
-              prepended-depth given value (arranged left) ∙ ap (prepended given) (sym (arranged-depth value left (no_dash_no value none dash))) in
+          prepended-depth given value (arranged left) ∙ ap (prepended given) (sym (arranged-depth value left (no_dash_no value none dash))) in
           subst (Tells true (total name true (at (waiting_held (codes "depth") h) (option (codes "depth")) false) (value ∷ left)) (end_of true (at (waiting_held (codes "depth") h) (option (codes "depth")) false) (value ∷ left))) found
           (tells-step true (at (waiting_held (codes "depth") h) (option (codes "depth")) false) (at after idle false) value left _ (depth_value-walked name h value none) (depth_value-turn name h value none)
           (tells-refused true _ _ _ (refused-more true (record given { depths = given.depths ++ value ∷ [] }) (arranged left) (depth-over given value over))

@@ -100,5 +100,12 @@ pub(crate) fn arrange(
     let plain = copies(alloc, given.get_strs(PLAIN))?;
     let fuels = copies(alloc, given.get_strs(FUEL))?;
     let depths = copies(alloc, given.get_strs(DEPTH))?;
-    Ok((name, Arrangement { plain, fuels, depths }))
+    Ok((
+        name,
+        Arrangement {
+            plain,
+            fuels,
+            depths,
+        },
+    ))
 }

@@ -43,8 +43,10 @@ returns-clause-ok c =
     let name : name_spelling found.name ≡ name_spelling c.in-Some-name_of.name = cc (named, c.in-Some-name_of.ensures) in
     let plain = c.in_ok-plain.ensures ∙ given-texts c.get_strs.result (found_of c.in-Some.given.now) (codes "words") found.given.plain found.rows rows found.plain c.get_strs.ensures in
     let fuels = c.in_ok-fuels.ensures ∙ given-texts c.get_strs-2.result (found_of c.in-Some.given.now) (codes "fuel") found.given.fuels found.rows rows found.fuels c.get_strs-2.ensures in
-    let depths = c.in_ok-depths.ensures ∙ given-texts c.get_strs-3.result (found_of c.in-Some.given.now) (codes "depth") found.given.depths found.rows rows found.depths c.get_strs-3.ensures in
-    (found.behind, found.first ∙ ap (λ s. s ∷ found.behind) name,
-    subst (λ p. IsArranged found.behind (record { plain = p; fuels = c.in_ok-fuels.fuels; depths = c.in_ok-depths.depths })) (sym plain)
-    (subst (λ f. IsArranged found.behind (record { plain = found.given.plain; fuels = f; depths = c.in_ok-depths.depths })) (sym fuels)
-    (subst (λ d. IsArranged found.behind (record { plain = found.given.plain; fuels = found.given.fuels; depths = d })) (sym depths) found.right)))
+    let depths = c.in_ok-depths.ensures ∙ given-texts c.get_strs-3.result (found_of c.in-Some.given.now) (codes "depth") found.given.depths found.rows rows found.depths c.get_strs-3.ensures in (
+      found.behind,
+      found.first ∙ ap (λ s. s ∷ found.behind) name,
+      subst (λ p. IsArranged found.behind (record { plain = p; fuels = c.in_ok-fuels.fuels; depths = c.in_ok-depths.depths })) (sym plain)
+          (subst (λ f. IsArranged found.behind (record { plain = found.given.plain; fuels = f; depths = c.in_ok-depths.depths })) (sym fuels)
+          (subst (λ d. IsArranged found.behind (record { plain = found.given.plain; fuels = found.given.fuels; depths = d })) (sym depths) found.right)),
+    )

@@ -36,12 +36,12 @@ loop-word-preserved c =
           let fuel : pointwise nat_eq word (codes "--fuel") ≡ true = cc in
           let named : names_option word ≡ true = rw fuel refl in
           w.is_behind-is ∙ w.if-eq-3.true ∙ sym named
-      )
+          )
       | else-eq-3 w ↦ (
           let no_fuel : pointwise nat_eq word (codes "--fuel") ≡ false = cc in
           let named : names_option word ≡ pointwise nat_eq word (codes "--depth") = rw no_fuel refl in
           w.is_behind-is ∙ w.eq-is_behind.ensures ∙ sym named
-      )
+          )
     ] in
     let one_on : dash_value_from c.loop-word.is_behind (word ∷ rest) ≡ dash_value_from (names_option word) rest = elim c.else-is_behind.branch [
       | else-is_behind-via-then-is_behind+else-eq-2 w ↦ dash_value-other c.loop-word.is_behind word rest no_end (cc)
