@@ -6,7 +6,7 @@ ghost use Rattle.st_words.specs.Arranged.{is_dashed};
 ghost use Rattle.st_words.specs.Reads.{HasNoReading};
 ghost use Rattle.st_words.specs.inner.Fronts.{IsArrangedAs, has_dash_value};
 ghost use Rattle.st_words.specs.inner.Copies.{texts_given};
-ghost use Rattle.st_words.specs.declared.fault.WordsFault.TheVariants.{Usage};
+ghost use Rattle.st_words.specs.declared.fault.WordsFault.TheVariants.{Usage, Memory};
 
 use crate::name::{CommandName, name_of};
 use crate::program::{DEPTH, FUEL, PLAIN, program};
@@ -68,7 +68,8 @@ fn copies(alloc: Global, words: Option<&[&str]>) -> Result<Row<CommandWord>, NoM
 
 /// What an error of `clap` tells of the words.
 fn fault_of(kind: ErrorKind) -> WordsFault
-    ensures { result ≡ Usage → kind ≢ OutOfMemory }
+    ensures usage { result ≡ Usage → kind ≢ OutOfMemory }
+    ensures memory { result ≡ Memory → kind ≡ OutOfMemory }
 {
     match kind {
         ErrorKind::OutOfMemory => WordsFault::Memory,

@@ -18,7 +18,7 @@ returns-in-Err-clause-usage c = λ is command reads.
     let no_dash : has_dash_value words ≡ false = cc in
     let failed = c.in-Err.ensures.kinds (ap is_simple_and_free c.in_ok-program.ensures) in
     let quiet = ap (λ a. fault_of a words) c.in_ok-program.ensures ∙ reading-passes words command (all-utf8 c.args.words.now) no_dash reads in
-    c.fault_of.ensures (cc is) (c.kind.ensures ∙ memory_alone _ c.in-Err.error quiet failed)
+    c.fault_of.ensures.usage (cc is) (c.kind.ensures ∙ memory_alone _ c.in-Err.error quiet failed)
 
 pub returns-in_default-name_of-clause-usage : goal.returns-in_default-name_of-clause-usage
 returns-in_default-name_of-clause-usage c = λ is command reads.
