@@ -1,5 +1,5 @@
 -- Whether a word `-` stands as a value, by the first word.
-use Rattle.std.proofs.Common.{◌≡◌, ◌∙◌, refl, sym, Bool, true, false, ◌&&◌, List, [], ◌∷◌, ℕ}
+use Rattle.std.proofs.Common.{◌≡◌, refl, Bool, true, false, List, [], ◌∷◌, ℕ}
 use Rattle.st_words.specs.Arranged.{is_end}
 use Rattle.st_words.specs.inner.Fronts.{dash_value_from, is_dash, names_option}
 

@@ -1,14 +1,14 @@
 -- What `clap` makes of a word, by its first characters.
-use Rattle.std.proofs.Common.{◌≡◌, ◌∙◌, refl, sym, ap, subst, Bool, true, false, ℕ, suc, ◌+◌, List, [], ◌∷◌, ◌++◌, Option, Some, None, take, drop, length, codes, arith, inl, inr}
+use Rattle.std.proofs.Common.{◌≡◌, ◌∙◌, refl, sym, ap, subst, Bool, true, false, ℕ, suc, ◌+◌, List, [], ◌∷◌, ◌++◌, Option, Some, None, take, drop, codes, arith}
 use Rattle.std.specs.Prelude.{◌==◌, slice_get, if◌then◌else◌}
 use Rattle.std.specs.List.{before_first, after_first, position_or_len}
 use Rattle.std.specs.Str.{IsUtf8, chars, encode_utf8_all}
 use Rattle.std.specs.Char.{encode_utf8}
-use Rattle.std.proofs.lemmas.Str.{encodes-chars, length-encode}
+use Rattle.std.proofs.lemmas.Str.{encodes-chars}
 use Rattle.std.proofs.lemmas.Bool.{eqb-true}
 use Rattle.clap.specs.Lexer.{long_of, short_of, name_and_value, has_byte}
 use Rattle.clap.specs.Walk.{Text}
-use Rattle.st_words.specs.Arranged.{begins_with_dash, is_dashed, is_end}
+use Rattle.st_words.specs.Arranged.{is_dashed, is_end}
 
 -- a word that is no option
 pub plain_is : (word : List ℕ) → is_dashed word ≡ false → (is_end word ≡ false) × (long_of word ≡ None) × (short_of word ≡ None)

@@ -1,17 +1,16 @@
 -- How a parse by `clap` walks over the words behind the name of a command.
-use Rattle.std.proofs.Common.{◌≡◌, ◌∙◌, refl, sym, ap, subst, Bool, true, false, cond, ◌&&◌, ℕ, List, [], ◌∷◌, ◌++◌, Option, Some, None, codes, true≢false}
-use Rattle.std.specs.Prelude.{fold, is_some, if◌then◌else◌}
-use Rattle.std.specs.Str.{bytes_eq, IsUtf8}
-use Rattle.clap.specs.Walk.{Held, Names, Row, Rule, Text, Waiting, Walk, idle, option, positional, arg_by_long, arg_by_short, has_row, pushed, reacted, settled, settled_rows, subcommand_met, walked, without}
+use Rattle.std.proofs.Common.{◌≡◌, ◌∙◌, refl, ap, subst, Bool, true, false, cond, ◌&&◌, ℕ, List, [], ◌∷◌, Option, Some, None, codes}
+use Rattle.std.specs.Prelude.{fold, if◌then◌else◌}
+use Rattle.std.specs.Str.{IsUtf8}
+use Rattle.clap.specs.Walk.{Held, Row, Rule, Text, Waiting, Walk, idle, option, positional, arg_by_long, pushed, settled, settled_rows, subcommand_met, walked}
 use Rattle.clap.specs.Simple.{Shape, filled, new_shape, with_index}
 use Rattle.clap.specs.Faults.{flags_fault, settle_fault, turn_fault, walk_fault}
 use Rattle.clap.specs.Kinds.{Kinds, or_else}
 use Rattle.clap.specs.Lexer.{long_of, short_of}
-use Rattle.clap.specs.declared.error.kind.ErrorKind.{ErrorKind}
 use Rattle.st_words.specs.declared.arrangement.Arrangement.{Arrangement}
 use Rattle.st_words.specs.Arranged.{is_dashed, is_end}
 use Rattle.st_words.specs.inner.Program.{plain_rule, option_rule}
-use Rattle.st_words.proofs.RowsLemmas.{look, row_if, one_more, look-same, look-other, without-none, has_row-look}
+use Rattle.st_words.proofs.RowsLemmas.{look, row_if}
 use Rattle.st_words.proofs.DashedLemmas.{plain_is, has_char}
 
 -- the arguments of a command, as building leaves them

@@ -1,26 +1,21 @@
 -- What is wrong with the words of a command, level by level.
-use Rattle.std.proofs.Common.{◌≡◌, ◌∙◌, refl, sym, ap, subst, Bool, true, false, cond, ◌&&◌, ◌||◌, ℕ, List, [], ◌∷◌, ◌++◌, map, Option, Some, None, codes, append_assoc, inl, inr}
+use Rattle.std.proofs.Common.{◌≡◌, ◌∙◌, refl, sym, ap, subst, Bool, true, false, cond, ◌||◌, List, [], ◌∷◌, ◌++◌, map, Option, Some, None, codes, append_assoc, inl, inr}
 use Rattle.std.specs.Prelude.{fold, find, is_some, option_map, ◌⊎◌}
 use Rattle.std.specs.List.{AllByRecursion as All}
 use Rattle.std.specs.Str.{bytes_eq, IsUtf8}
 use Rattle.std.specs.Cmp.Lexicographic.{bytes_decides}
 use Rattle.std.proofs.lemmas.List.{append-nil}
-use Rattle.clap.specs.Walk.{Held, Names, Row, Rule, Text, Walk, idle, answers_to, finished, has_row, nothing_held, rows_after, settled, subcommand_met, walk, walk_from, walked, with_default}
-use Rattle.clap.specs.Simple.{App, Shape, built, entered, label_of, names_of, rows_at, subcommand_of}
+use Rattle.clap.specs.Walk.{Names, Row, Rule, Text, Walk, idle, answers_to, finished, has_row, nothing_held, settled, subcommand_met, walk, walk_from, walked, with_default}
+use Rattle.clap.specs.Simple.{Shape, built, entered, label_of, names_of, rows_at, subcommand_of}
 use Rattle.clap.specs.Faults.{check_fault, default_fault, defaults_fault, entered_fault, fault_of, flags_fault, given_default_fault, level_fault, settle_fault, turn_fault, walk_fault}
 use Rattle.clap.specs.Kinds.{Kinds, or_else}
 use Rattle.st_words.specs.declared.arrangement.Arrangement.{Arrangement}
-use Rattle.st_words.specs.declared.command.Command.{Command}
 use Rattle.st_words.specs.declared.name.CommandName.{CommandName}
-use Rattle.st_words.specs.declared.name.CommandName.TheVariants.{Check, Il, Groups, Order, Eval, Next, Run, Derive, Verify, Prose, Latex, Make}
+use Rattle.st_words.specs.declared.name.CommandName.TheVariants.{Check}
 use Rattle.st_words.specs.Names.{name_spelling}
-use Rattle.st_words.specs.Arranged.{is_dashed, plain_words, IsArranged}
-use Rattle.st_words.specs.Table.{Asks}
-use Rattle.st_words.specs.Reads.{Reads}
-use Rattle.st_words.specs.inner.Fronts.{arranged, dash_value_from, has_dash_value, names_option, prepended}
+use Rattle.st_words.specs.Arranged.{is_dashed, plain_words}
+use Rattle.st_words.specs.inner.Fronts.{arranged, dash_value_from, prepended}
 use Rattle.st_words.specs.inner.Program.{all_names, program_app, takes_options}
-use Rattle.st_words.proofs.FrontsLemmas.{arranged-complete, arranged-sound}
-use Rattle.st_words.proofs.DashLemmas.{dash_value-first}
 use Rattle.st_words.proofs.DashedLemmas.{Dashed, double, long, short, dashed_is, plain_is, has_char}
 use Rattle.st_words.proofs.RowsLemmas.{look, row_if, row_with}
 use Rattle.st_words.proofs.LeafLemmas.{rules, leaf, plain_built, option_built, found_now, at, Good, or_else-parts, or_else-nil, total}

@@ -1,17 +1,16 @@
 -- How a parse by `clap` walks over options.
-use Rattle.std.proofs.Common.{◌≡◌, ◌∙◌, refl, sym, ap, subst, Bool, true, false, cond, ◌&&◌, ℕ, List, [], ◌∷◌, ◌++◌, Option, Some, None, codes, true≢false}
+use Rattle.std.proofs.Common.{◌≡◌, ◌∙◌, refl, ap, Bool, true, false, List, [], ◌∷◌, ◌++◌, Option, Some, None, codes}
 use Rattle.std.specs.Prelude.{is_some}
-use Rattle.std.specs.Str.{bytes_eq, IsUtf8}
-use Rattle.std.specs.Cmp.Lexicographic.{bytes_decides}
-use Rattle.clap.specs.Walk.{Held, Row, Rule, Text, Waiting, Walk, idle, option, positional, arg_by_long, has_row, pushed, reacted, settled, subcommand_met, walked, without}
+use Rattle.std.specs.Str.{bytes_eq}
+use Rattle.clap.specs.Walk.{Held, Row, Text, Waiting, idle, option, arg_by_long, has_row, pushed, reacted, settled, walked, without}
 use Rattle.clap.specs.Faults.{repeat_fault, settle_fault}
-use Rattle.clap.specs.Kinds.{Kinds, or_else}
+use Rattle.clap.specs.Kinds.{or_else}
 use Rattle.clap.specs.Lexer.{long_of}
 use Rattle.st_words.specs.declared.arrangement.Arrangement.{Arrangement}
 use Rattle.st_words.specs.Arranged.{is_dashed, is_end}
-use Rattle.st_words.proofs.RowsLemmas.{look, row_if, row_with, one_more, look-same, look-other, without-none, has_row-look}
+use Rattle.st_words.proofs.RowsLemmas.{look, row_if, one_more, look-same, look-other, without-none, has_row-look}
 use Rattle.st_words.proofs.DashedLemmas.{plain_is}
-use Rattle.st_words.proofs.LeafLemmas.{option_built, plain_built, rules, leaf, found_now, at, Good, or_else-parts, met-none, turn}
+use Rattle.st_words.proofs.LeafLemmas.{option_built, rules, found_now, at, Good, or_else-parts, met-none, turn}
 
 -- an option that waits for its value
 abbrev pub waiting_held : Text → Held → Held

@@ -38,9 +38,9 @@ use Rattle.st_words.proofs.FrontsLemmas.{Kind, is_plain, is_double_dash, is_fuel
 use Rattle.st_words.proofs.DashLemmas.{dash_value-end, dash_value-first, dash_value-other}
 use Rattle.st_words.proofs.DashedLemmas.{plain_is}
 use Rattle.st_words.proofs.RowsLemmas.{look, row_if}
-use Rattle.st_words.proofs.LeafLemmas.{rules, leaf, found_now, at, Good, total}
-use Rattle.st_words.proofs.SimLemmas.{allowed, at_most_one, is_none, names_none, Tells, end_of}
-use Rattle.st_words.proofs.LevelLemmas.{leaf_fault, leaf-quiet, leaf-passes, leaf-tells, fold-kept, fault-name, subcommand-name, fault-no_name, fault-no_words}
+use Rattle.st_words.proofs.LeafLemmas.{leaf, found_now, at, Good, total}
+use Rattle.st_words.proofs.SimLemmas.{allowed, at_most_one, names_none, Tells, end_of}
+use Rattle.st_words.proofs.LevelLemmas.{leaf-quiet, leaf-passes, leaf-tells, fold-kept, fault-name, subcommand-name, fault-no_name, fault-no_words}
 
 -- ---- which command a word names
 

@@ -1,10 +1,9 @@
 -- What `clap` is told of the commands.
-use Rattle.std.proofs.Common.{◌≡◌, ◌∙◌, refl, sym, ap, true, false, ℕ, zero, suc, arith, ◌+◌, ◌<◌, List, [], ◌∷◌, ◌++◌, map, take, length, get_or, codes}
+use Rattle.std.proofs.Common.{◌≡◌, ◌∙◌, refl, ap, true, ℕ, zero, suc, arith, ◌+◌, ◌<◌, List, [], ◌∷◌, ◌++◌, map, take, length, get_or, codes}
 use Rattle.clap.specs.Simple.{App, Shape, app_of_fields, new_app, with_subcommand}
 use Rattle.clap.specs.declared.builder.command.Command.{Command}
 use Rattle.clap.specs.declared.builder.command.Command.TheOpen.{Command-F}
 use Rattle.st_words.specs.declared.name.CommandName.{CommandName}
-use Rattle.st_words.specs.declared.name.CommandName.TheVariants.{Check}
 use Rattle.st_words.specs.inner.Program.{program_with, shape_named, all_names}
 
 -- the settings, one by one

@@ -1,21 +1,21 @@
 -- A parse by `clap` of the words behind a name finds their arrangement, or fails.
-use Rattle.std.proofs.Common.{◌≡◌, ◌∙◌, refl, sym, ap, subst, Bool, true, false, ◌&&◌, ℕ, List, [], ◌∷◌, ◌++◌, map, Option, Some, None, codes, true≢false, append_assoc}
-use Rattle.std.specs.Prelude.{fold, nat_eq, ⊤, ◌==◌, if◌then◌else◌}
+use Rattle.std.proofs.Common.{◌≡◌, ◌∙◌, refl, sym, ap, subst, Bool, true, false, ◌&&◌, ℕ, List, [], ◌∷◌, ◌++◌, Option, Some, None, codes, true≢false, append_assoc}
+use Rattle.std.specs.Prelude.{fold, ⊤, ◌==◌, if◌then◌else◌}
 use Rattle.std.specs.List.{AllByRecursion as All}
 use Rattle.std.specs.Str.{bytes_eq, IsUtf8}
-use Rattle.std.specs.Cmp.Lexicographic.{pointwise, bytes_decides}
+use Rattle.std.specs.Cmp.Lexicographic.{bytes_decides}
 use Rattle.std.proofs.lemmas.List.{append-nil}
 use Rattle.clap.specs.Walk.{Held, Text, Waiting, Walk, idle, option, positional, arg_by_long, pushed, reacted, settled, walked}
-use Rattle.clap.specs.Faults.{repeat_fault, settle_fault}
+use Rattle.clap.specs.Faults.{settle_fault}
 use Rattle.clap.specs.Kinds.{Kinds, or_else}
 use Rattle.st_words.specs.declared.arrangement.Arrangement.{Arrangement}
-use Rattle.st_words.specs.Arranged.{begins_with_dash, is_dashed, is_end, plain_words}
-use Rattle.st_words.specs.inner.Fronts.{as_value, with_plain, with_fuel, with_depth, prepended, arranged, dash_value_from, is_dash, names_option}
+use Rattle.st_words.specs.Arranged.{begins_with_dash, is_dashed}
+use Rattle.st_words.specs.inner.Fronts.{with_plain, with_fuel, with_depth, prepended, arranged, dash_value_from, is_dash, names_option}
 use Rattle.st_words.proofs.FrontsLemmas.{Kind, is_plain, is_double_dash, is_fuel, is_depth, is_fuel_joined, is_depth_joined, is_unknown, kind, arranged-plain, arranged-end, arranged-fuel, arranged-depth, arranged-fuel_joined, arranged-depth_joined, prepended-fuel, prepended-depth, prepended-all, prepended-none}
 use Rattle.st_words.proofs.DashLemmas.{dash_value-first, dash_value-there, dash_value-other}
 use Rattle.st_words.proofs.DashedLemmas.{Dashed, double, long, short, dashed_is, plain_is, spelled}
 use Rattle.st_words.proofs.RowsLemmas.{row_if}
-use Rattle.st_words.proofs.LeafLemmas.{option_built, rules, leaf, found_now, at, is_free, Good, or_else-parts, or_else-nil, total, turn, total-step, total-fault, total-nil, plain-walked, plain-turn, behind-walked, behind-turn, end-walked, end-turn, long-unknown, short-unknown}
+use Rattle.st_words.proofs.LeafLemmas.{option_built, rules, found_now, at, is_free, Good, or_else-parts, or_else-nil, total, turn, total-step, total-fault, total-nil, plain-walked, plain-turn, behind-walked, behind-turn, end-walked, end-turn, long-unknown, short-unknown}
 use Rattle.st_words.proofs.OptionsWalked.{waiting_held, fuel_joined-walked, fuel_joined-turn, depth_joined-walked, depth_joined-turn, fuel-walked, fuel-turn, depth-walked, depth-turn, fuel_value-walked, fuel_value-turn, depth_value-walked, depth_value-turn, fuel-settles, depth-settles, repeat-none, repeat-some, known, good-plain, good-fuel, good-depth}
 
 -- ---- which arrangements a command takes

@@ -1,6 +1,6 @@
-use Rattle.std.proofs.Common.{◌≡◌, ◌∙◌, ap, sym, subst, refl, [], ◌∷◌, Some, codes, map, string_bytes, true, false}
+use Rattle.std.proofs.Common.{◌≡◌, ◌∙◌, ap, sym, subst, [], ◌∷◌, Some, codes, map, string_bytes, false}
 use Rattle.std.specs.Prelude.{option_map}
-use Rattle.clap.specs.Words.{app_of, found_of, is_simple, rows_of, subcommand_of, subcommand_rows_of}
+use Rattle.clap.specs.Words.{found_of, is_simple, rows_of, subcommand_of}
 use Rattle.clap.specs.Faults.{fault_of, is_simple_and_free}
 use Rattle.st_words.specs.Names.{name_spelling}
 use Rattle.st_words.specs.Arranged.{IsArranged}

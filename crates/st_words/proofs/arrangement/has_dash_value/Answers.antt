@@ -1,7 +1,7 @@
 use Rattle.std.proofs.Common.{◌≡◌, ◌∙◌, ap, sym, refl, true, false, map, string_bytes, drop, ◌+◌, arith, [], ◌∷◌, codes, nat_eq}
 use Rattle.std.specs.Cmp.Lexicographic.{pointwise}
 use Rattle.st_words.specs.Arranged.{is_end}
-use Rattle.st_words.specs.inner.Fronts.{dash_value_from, has_dash_value, is_dash, names_option}
+use Rattle.st_words.specs.inner.Fronts.{dash_value_from, is_dash, names_option}
 use Rattle.st_words.proofs.DashLemmas.{dash_value-none, dash_value-end, dash_value-there, dash_value-first, dash_value-other}
 use Rattle.st_words.proofs.Slices.{words_from, no_words_from}
 use Rattle.st_words.proofs.arrangement.has_dash_value.Goals.{else-is_behind-via-then-is_behind+else-eq-2, else-is_behind-via-else-is_behind, then-eq-3, else-eq-3}

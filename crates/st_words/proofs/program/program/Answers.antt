@@ -1,8 +1,6 @@
-use Rattle.std.proofs.Common.{◌≡◌, ◌∙◌, ap, ap₂, sym, refl, true, false, map, take, ◌+◌, arith, rules}
-use Rattle.clap.specs.Words.{app_of, with_subcommand}
-use Rattle.clap.specs.Simple.{app_of_fields}
+use Rattle.std.proofs.Common.{◌∙◌, ap₂, arith}
+use Rattle.clap.specs.Words.{with_subcommand}
 use Rattle.clap.specs.declared.builder.command.Command.TheViews.{out-Command}
-use Rattle.st_words.specs.inner.Program.{program_with, program_app, shape_named, all_names}
 use Rattle.st_words.proofs.ProgramLemmas.{settings_app, one_more_command}
 use Rattle.st_words.proofs.program.program.Goals as goal
 
