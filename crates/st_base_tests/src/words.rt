@@ -79,7 +79,7 @@ fn told(alloc: Global, words: &str) -> Result<String, Fail> {
     }
 }
 
-const COMMANDS: [(&str, &str); 19] = [
+const COMMANDS: [(&str, &str); 21] = [
     ("run T a b --fuel 3", "run T 3 200: a b"),
     ("run --fuel=3 T a b", "run T 3 200: a b"),
     ("run T --depth 500 a --fuel=0 b c", "run T 0 500: a b c"),
@@ -89,6 +89,8 @@ const COMMANDS: [(&str, &str); 19] = [
         "derive --fuel 1000000 -- --fuel a b",
         "derive --fuel 1000000 200: a b",
     ),
+    ("run T a b -- --fuel 3", "run T 1000 200: a b --fuel 3"),
+    ("run T - --fuel 0000003 - -- -", "run T 3 200: - - -"),
     ("check -- -x", "check: -x"),
     ("check -", "check: -"),
     ("check a -- b -- --depth", "check: a b -- --depth"),
@@ -113,9 +115,15 @@ fn words_ask_for_these_commands(rt: HostRuntime) -> Result<(), Fail> {
     Ok(())
 }
 
-const NO_COMMANDS: [&str; 32] = [
+const NO_COMMANDS: [&str; 41] = [
     "",
     "frob",
+    "help",
+    "help check",
+    "--help",
+    "--version",
+    "check --help",
+    "check a -h",
     "-- check a",
     "--fuel 3 run T a b",
     "check",
@@ -131,6 +139,9 @@ const NO_COMMANDS: [&str; 32] = [
     "run T a b --fuel 00000001",
     "run T a b --fuel",
     "run T a b --fuel -",
+    "run T a b --fuel +1",
+    "run T a b --fuel --depth 3",
+    "run T a b --depth=3 --depth=3",
     "run T a b --fuel -- 3",
     "run T a b --fuel _",
     "run T a b --fuel=",

@@ -3,19 +3,11 @@ use Rattle.std.proofs.Common.{◌≡◌, ◌≢◌, ◌<◌, ◌^◌, ℕ, List,
 use Rattle.std.specs.Prelude.{Result, Ok, Err, IfOk}
 use Rattle.std.proofs.lemmas.List.Elements.{All-nil}
 use Rattle.st_el.specs.declared.definition.Def.{Def}
-use Rattle.st_elab_def.specs.Elaboration.{IsElaborated}
-use Rattle.st_elab_def.specs.Erasing.{ErasesTo}
-use Rattle.st_elab_def.specs.declared.elaborated.Elaborated.{Elaborated}
 use Rattle.st_il.specs.declared.definition.IlDef.{IlDef}
 use Rattle.st_il.specs.declared.definition.RuleDef.{RuleDef}
-use Rattle.st_ilcheck.specs.Typed.{Typed}
 use Rattle.st_num.specs.declared.memory.NoMemory.{NoMemory}
 use Rattle.st_num.specs.declared.rule.RuleId.{RuleId}
 use Rattle.st_num.specs.declared.token.Token.{Token}
-use Rattle.st_modes.specs.Modes.{IsModesAnswer}
-use Rattle.st_order.specs.Modes.{HasFew}
-use Rattle.st_modes.specs.declared.fault.ModeFault.{ModeFault}
-use Rattle.st_order.specs.declared.relation_modes.Modes.{Modes}
 use Rattle.st_parse.specs.Source.{IsSource}
 use Rattle.st_semantics.specs.Breaches.{Standing, Breaks}
 use Rattle.st_semantics.specs.declared.unfit.Unfit.{Unfit}
@@ -27,7 +19,7 @@ use Rattle.st_answers.specs.declared.answer.Answer.{Answer}
 use Rattle.st_source.specs.declared.specification.Specification.{Specification}
 use Rattle.st_source.specs.declared.specification.Specification.TheVariants.{Accepted, Refused}
 use Rattle.st_answers.specs.declared.status.Status.TheVariants as status
-use Rattle.st_source.specs.inner.Specifying.{IsAccepted, RefusesSource, RefusesFiles, AreSound, AreSpecified, SpecifiesSource, Specifies}
+use Rattle.st_source.specs.inner.Specifying.{IsAccepted, RefusesSource, RefusesFiles, AreSpecified, SpecifiesSource, Specifies}
 use Rattle.st_source.proofs.Checks.{TellsSource, TellsFiles}
 
 -- ---- refusals

@@ -7,7 +7,7 @@ use Rattle.std.specs.List.{starts_with}
 use Rattle.std.specs.Cmp.Lexicographic.{pointwise, bytes_decides}
 use Rattle.st_words.specs.declared.arrangement.Arrangement.{Arrangement}
 use Rattle.st_words.specs.Arranged.{begins_with_dash, is_dashed, is_end, plain_words, IsOption, IsArranged, empty, ended, plain, fuel, depth}
-use Rattle.st_words.specs.inner.Fronts.{as_value, with_plain, with_fuel, with_depth, prepended, arranged, AddsJoined, IsNotJoined}
+use Rattle.st_words.specs.inner.Fronts.{as_value, with_plain, with_fuel, with_depth, prepended, arranged}
 
 -- a plain word in front
 pub arranged-plain : (word : List ℕ) (behind : List (List ℕ)) → is_dashed word ≡ false
@@ -63,21 +63,6 @@ unknown word (next ∷ words) dashed no_end no_fuel no_depth no_fuel_joined no_d
 -- a text that begins with another
 begins : (word front : List ℕ) → starts_with nat_eq word front ≡ true → word ≡ front ++ drop (length front) word
 begins word front is = (starts_is Decides-eqb word front _ refl).0 is
-
-begins_not : (word front : List ℕ) → ((value : List ℕ) → ¬ (word ≡ front ++ value)) → starts_with nat_eq word front ≡ false
-begins_not word front none = by (starts_with nat_eq word front) refl
-  where
-    by : (b : Bool) → starts_with nat_eq word front ≡ b → starts_with nat_eq word front ≡ false
-    by false is = is
-    by true is = absurd (none _ (begins word front is))
-
-pub arranged-unknown : (word : List ℕ) (behind : List (List ℕ)) → is_dashed word ≡ true → is_end word ≡ false
-    → pointwise nat_eq word (codes "--fuel") ≡ false
-    → pointwise nat_eq word (codes "--depth") ≡ false
-    → IsNotJoined word
-    → arranged (word ∷ behind) ≡ None
-arranged-unknown word behind dashed no_end no_fuel no_depth none =
-    unknown word behind dashed no_end no_fuel no_depth (begins_not word (codes "--fuel=") none.no_fuel) (begins_not word (codes "--depth=") none.no_depth)
 
 pub kind : (word : List ℕ) → Kind word
 kind word = with_tests (is_dashed word) refl (is_end word) refl (pointwise nat_eq word (codes "--fuel")) refl (pointwise nat_eq word (codes "--depth")) refl (starts_with nat_eq word (codes "--fuel=")) refl (starts_with nat_eq word (codes "--depth=")) refl
@@ -136,43 +121,6 @@ arranged-complete _ _ (depth value option words rest option_is right) =
 
 pub arranged-only : (words : List (List ℕ)) (given other : Arrangement) → IsArranged words given → IsArranged words other → given ≡ other
 arranged-only words given other is so = let one = arranged-complete words given is in let two = arranged-complete words other so in cc
-
--- the option is given by the next word
-pub front-fuel : (given : Arrangement) (values : List (List ℕ)) (first value : List ℕ) (behind left : List (List ℕ))
-    → pointwise nat_eq first (codes "--fuel") ≡ true → behind ≡ value ∷ left → begins_with_dash value ≡ false
-    → values ≡ given.fuels ++ value ∷ []
-    → prepended (record given { fuels = values }) (arranged left) ≡ prepended given (arranged (first ∷ behind))
-front-fuel given values first value behind left named is none added =
-    ap (λ vs. prepended (record given { fuels = vs }) (arranged left)) added
-    ∙ prepended-fuel given value (arranged left)
-    ∙ ap (prepended given) (sym (arranged-fuel value left none))
-    ∙ ap (λ w. prepended given (arranged (w ∷ value ∷ left))) (sym ((bytes_decides first (codes "--fuel")).0 named))
-    ∙ ap (λ ws. prepended given (arranged (first ∷ ws))) (sym is)
-
-pub front-depth : (given : Arrangement) (values : List (List ℕ)) (first value : List ℕ) (behind left : List (List ℕ))
-    → pointwise nat_eq first (codes "--depth") ≡ true → behind ≡ value ∷ left → begins_with_dash value ≡ false
-    → values ≡ given.depths ++ value ∷ []
-    → prepended (record given { depths = values }) (arranged left) ≡ prepended given (arranged (first ∷ behind))
-front-depth given values first value behind left named is none added =
-    ap (λ vs. prepended (record given { depths = vs }) (arranged left)) added
-    ∙ prepended-depth given value (arranged left)
-    ∙ ap (prepended given) (sym (arranged-depth value left none))
-    ∙ ap (λ w. prepended given (arranged (w ∷ value ∷ left))) (sym ((bytes_decides first (codes "--depth")).0 named))
-    ∙ ap (λ ws. prepended given (arranged (first ∷ ws))) (sym is)
-
--- it stands in one word
-pub front-joined : (given after : Arrangement) (word : List ℕ) (behind : List (List ℕ)) → AddsJoined given after word
-    → prepended after (arranged behind) ≡ prepended given (arranged (word ∷ behind))
-front-joined given after word behind (inl (value, is, added)) =
-    ap (λ a. prepended a (arranged behind)) added
-    ∙ prepended-fuel given value (arranged behind)
-    ∙ ap (prepended given) (sym (arranged-fuel_joined value behind))
-    ∙ ap (λ w. prepended given (arranged (w ∷ behind))) (sym is)
-front-joined given after word behind (inr (value, is, added)) =
-    ap (λ a. prepended a (arranged behind)) added
-    ∙ prepended-depth given value (arranged behind)
-    ∙ ap (prepended given) (sym (arranged-depth_joined value behind))
-    ∙ ap (λ w. prepended given (arranged (w ∷ behind))) (sym is)
 
 -- an arrangement with a word more in front comes from one behind
 pub from-plain : (word : List ℕ) (rest : Option Arrangement) (given : Arrangement) → with_plain word rest ≡ Some given
@@ -257,29 +205,3 @@ arranged-sound (word ∷ next ∷ words) given is =
   where
     left_is : (value : List ℕ) (left : List (List ℕ)) → next ∷ words ≡ value ∷ left → words ≡ left
     left_is value left e = cc
-
--- `--` ends the options: what stands behind it is plain
-pub front-end : (whole : Option Arrangement) (given : Arrangement) (first : List ℕ) (row behind rest : List (List ℕ))
-    → pointwise nat_eq first (codes "--") ≡ true → rest ≡ first ∷ behind → row ≡ given.plain ++ behind
-    → prepended given (arranged rest) ≡ whole
-    → whole ≡ Some (record given { plain = row })
-front-end whole given first row behind rest named is added so =
-    sym so
-    ∙ ap (λ ws. prepended given (arranged ws)) is
-    ∙ ap (λ w. prepended given (arranged (w ∷ behind))) ((bytes_decides first (codes "--")).0 named)
-    ∙ ap (prepended given) (arranged-end behind)
-    ∙ prepended-all given behind
-    ∙ ap (λ r. Some (record given { plain = r })) (sym added)
-
--- no words are left
-pub front-empty : (whole : Option Arrangement) (given : Arrangement) (rest : List (List ℕ))
-    → rest ≡ [] → prepended given (arranged rest) ≡ whole → whole ≡ Some given
-front-empty whole given rest is so = sym so ∙ ap (λ ws. prepended given (arranged ws)) is ∙ simp append-nil
-
--- words of which the rest is not arranged are not arranged
-pub front-none : (whole words : List (List ℕ)) (given : Arrangement) → arranged words ≡ None
-    → prepended given (arranged words) ≡ arranged whole → (all : Arrangement) → ¬ (IsArranged whole all)
-front-none whole words given none so all right =
-    let found = arranged-complete whole all right in
-    let missing = prepended-none given (arranged words) none in
-    absurd (cc)

@@ -1,4 +1,13 @@
 pub mod FrontsLemmas
+pub mod DashLemmas
+pub mod DashedLemmas
+pub mod RowsLemmas
+pub mod LeafLemmas
+pub mod OptionsWalked
+pub mod SimLemmas
+pub mod LevelLemmas
+pub mod ParsedLemmas
+pub mod ProgramLemmas
 pub mod Slices
 pub mod NamesLemmas
 pub mod NumbersLemmas

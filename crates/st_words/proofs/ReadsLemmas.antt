@@ -1,5 +1,5 @@
 -- Words ask for one command at most.
-use Rattle.std.proofs.Common.{◌≡◌, ◌∙◌, sym, ap, subst, ℕ, List, ◌∷◌, Result, Ok, Err}
+use Rattle.std.proofs.Common.{◌≡◌, ◌∙◌, refl, sym, ap, subst, ℕ, List, ◌∷◌, Result, Ok, Err}
 use Rattle.std.specs.Prelude.{IfOk, IfErr, MatchResult}
 use Rattle.st_words.specs.declared.arrangement.Arrangement.{Arrangement}
 use Rattle.st_words.specs.declared.command.Command.{Command}
@@ -10,7 +10,7 @@ use Rattle.st_words.specs.declared.fault.WordsFault.TheVariants.{Usage, Memory}
 use Rattle.st_words.specs.Names.{name_spelling}
 use Rattle.st_words.specs.Arranged.{IsArranged}
 use Rattle.st_words.specs.Table.{Asks}
-use Rattle.st_words.specs.Reads.{Reads, IsOnlyReading, TellsUsage}
+use Rattle.st_words.specs.Reads.{HasNoReading, Reads, IsOnlyReading, TellsUsage}
 use Rattle.st_words.proofs.FrontsLemmas.{arranged-only}
 use Rattle.st_words.proofs.NamesLemmas.{name_only}
 use Rattle.st_words.proofs.NumbersLemmas.{Says-only}
@@ -60,3 +60,12 @@ module _ (words behind : List (List ℕ)) (word : List ℕ) (name : CommandName)
   tells_usage (Ok command) is = tt
   tells_usage (Err Usage) is = λ command so. is command (asked command so)
   tells_usage (Err Memory) is = tt
+
+tells : (words : List (List ℕ)) (fault : WordsFault) → (fault ≡ Usage → HasNoReading words) → TellsUsage words fault
+tells words Usage says = says refl
+tells words Memory says = tt
+
+-- a fault tells what usage tells, where it is usage
+pub tells-err : (words : List (List ℕ)) (result : Result Command WordsFault) (fault : WordsFault) → result ≡ Err fault → (fault ≡ Usage → HasNoReading words) → IfErr result (λ f. TellsUsage words f)
+tells-err words (Ok command) fault is says = tt
+tells-err words (Err f) fault is says = tells words f (λ e. says (cc (is, e)))

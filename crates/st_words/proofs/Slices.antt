@@ -1,5 +1,5 @@
 -- Slices of words by their first one.
-use Rattle.std.proofs.Common.{◌≡◌, ◌∙◌, refl, sym, ap, ◌≤◌, ◌<◌, ◌-◌, List, [], ◌∷◌, ℕ, ◌+◌, length, take, drop, drop-cons, add-one, get_or, map, string_bytes, String, Global, arith}
+use Rattle.std.proofs.Common.{◌≡◌, ◌∙◌, refl, sym, ap, ◌≤◌, ◌<◌, ◌-◌, List, [], ◌∷◌, ℕ, ◌+◌, length, take, drop, drop-cons, drop_of_length-le, add-one, get_or, map, string_bytes, String, Global, arith}
 use Rattle.std.proofs.lemmas.List.{take_rest}
 
 -- a list is its first member and the slice behind it
@@ -25,3 +25,6 @@ words_from words i word bytes within is same =
     ap (map string_bytes) (drop-cons words i word within)
     ∙ ap (λ n. string_bytes (get_or words i word) ∷ map string_bytes (drop n words)) (sym (add-one i))
     ∙ ap (λ b. b ∷ map string_bytes (drop (i + 1) words)) (ap string_bytes (sym is) ∙ sym same)
+
+pub no_words_from : (words : List (String Global)) (i : ℕ) → length words ≤ i → map string_bytes (drop i words) ≡ []
+no_words_from words i past = ap (map string_bytes) (drop_of_length-le words past)

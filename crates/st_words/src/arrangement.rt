@@ -1,11 +1,17 @@
-//! The words behind the name of a command, as they are arranged.
+//! The words of a command, as they are arranged: its name, plain words, and values of options.
 
-ghost use Rattle.std.specs.Prelude.{◌≡◌, ℕ, ◌∷◌, ◌++◌, ◌≤◌, [], List, length, map, string_bytes, true, false, IfOk, OnOk};
-ghost use Rattle.st_words.specs.Arranged.{begins_with_dash, is_dashed, is_end, IsArranged};
-ghost use Rattle.st_words.specs.inner.Fronts.{arranged, prepended, AddsJoined, IsNotJoined};
-ghost use Rattle.st_words.specs.declared.fault.WordsFault.TheVariants.{Usage};
+ghost use Rattle.std.specs.Prelude.{◌≡◌, ◌≢◌, map, string_bytes, IfOk};
+ghost use Rattle.clap.specs.declared.error.kind.ErrorKind.TheVariants.{OutOfMemory};
+ghost use Rattle.st_words.specs.Arranged.{is_dashed};
+ghost use Rattle.st_words.specs.Reads.{HasNoReading};
+ghost use Rattle.st_words.specs.inner.Fronts.{IsArrangedAs, has_dash_value};
+ghost use Rattle.st_words.specs.inner.Copies.{texts_given};
+ghost use Rattle.st_words.specs.declared.fault.WordsFault.TheVariants.{Usage, Memory};
 
+use crate::name::{CommandName, name_of};
+use crate::program::{DEPTH, FUEL, PLAIN, program};
 use crate::{CommandWord, WordsFault};
+use clap::error::ErrorKind;
 use st_num::{NoMemory, Row};
 use std::alloc::Global;
 
@@ -15,16 +21,6 @@ pub(crate) struct Arrangement {
     pub(crate) plain: Row<CommandWord>,
     pub(crate) fuels: Row<CommandWord>,
     pub(crate) depths: Row<CommandWord>,
-}
-
-/// Whether the word begins with `-`.
-fn begins_with_dash(word: &str) -> bool
-    ensures { result ≡ begins_with_dash word.now }
-{
-    match word.as_bytes() {
-        [] => false,
-        [first, ..] => *first == b'-',
-    }
 }
 
 /// Whether the word begins with `-` and is longer than one character.
@@ -37,111 +33,80 @@ pub(crate) fn is_dashed(word: &str) -> bool
     }
 }
 
-/// Adds a copy of the word at the end.
-fn push_word(alloc: Global, row: &mut Row<CommandWord>, word: &str) -> Result<(), NoMemory>
-    ensures { OnOk result (row.new ≡ row.old ++ word.now ∷ []) }
+/// Whether a word `-` stands directly behind `--fuel` or `--depth`, before the first `--`: the
+/// one text that `clap` reads as a value of an option, and that is none.
+fn has_dash_value(words: &[String]) -> bool
+    ensures { result ≡ has_dash_value (map string_bytes words.now) }
 {
-    row.push(CommandWord::new(alloc, word)?)
-}
-
-/// Adds copies of the words at the end.
-fn push_words(alloc: Global, row: &mut Row<CommandWord>, words: &[String]) -> Result<(), NoMemory>
-    ensures { OnOk result (row.new ≡ row.old ++ map string_bytes words.now) }
-{
+    let mut is_behind = false;
     for word in words {
-        push_word(alloc, row, word.as_str())?;
-    }
-    Ok(())
-}
-
-/// Adds the next word as the value of an option, and gives what stands behind it.
-fn add_next<'a>(
-    alloc: Global,
-    values: &mut Row<CommandWord>,
-    behind: &'a [String],
-) -> Result<&'a [String], WordsFault>
-    ensures ok { IfOk result (λ left. (value : List ℕ)
-        × (map string_bytes behind.now ≡ value ∷ map string_bytes left.now)
-        × (begins_with_dash value ≡ false)
-        × (values.new ≡ values.old ++ value ∷ [])) }
-    ensures usage { result ≡ Err Usage → (value : List ℕ) (left : List (List ℕ))
-        → map string_bytes behind.now ≡ value ∷ left → begins_with_dash value ≡ true }
-{
-    let [value, left @ ..] = behind else {
-        return Err(WordsFault::Usage);
-    };
-    if begins_with_dash(value.as_str()) {
-        return Err(WordsFault::Usage);
-    }
-    push_word(alloc, values, value.as_str())?;
-    Ok(left)
-}
-
-/// Adds the value of an option that stands in the same word.
-fn add_joined(alloc: Global, given: &mut Arrangement, word: &str) -> Result<(), WordsFault>
-    ensures ok { OnOk result (AddsJoined given.old given.new word.now) }
-    ensures usage { result ≡ Err Usage → IsNotJoined word.now }
-{
-    if let Some(value) = word.strip_prefix("--fuel=") {
-        push_word(alloc, &mut given.fuels, value)?;
-        return Ok(());
-    }
-    let Some(value) = word.strip_prefix("--depth=") else {
-        return Err(WordsFault::Usage);
-    };
-    push_word(alloc, &mut given.depths, value)?;
-    Ok(())
-}
-
-/// Adds what stands in front, which is not `--`, and gives what stands behind it.
-fn add_front<'a>(
-    alloc: Global,
-    given: &mut Arrangement,
-    first: &str,
-    behind: &'a [String],
-) -> Result<&'a [String], WordsFault>
-    requires { is_end first.now ≡ false }
-    ensures ok { IfOk result (λ left. prepended given.new (arranged (map string_bytes left.now))
-        ≡ prepended given.old (arranged (first.now ∷ map string_bytes behind.now))) }
-    ensures shorter { IfOk result (λ left. length left.now ≤ length behind.now) }
-    ensures usage { result ≡ Err Usage
-        → arranged (first.now ∷ map string_bytes behind.now) ≡ None }
-{
-    if !is_dashed(first) {
-        push_word(alloc, &mut given.plain, first)?;
-        return Ok(behind);
-    }
-    if first == "--fuel" {
-        let left = add_next(alloc, &mut given.fuels, behind)?;
-        return Ok(left);
-    }
-    if first == "--depth" {
-        let left = add_next(alloc, &mut given.depths, behind)?;
-        return Ok(left);
-    }
-    add_joined(alloc, given, first)?;
-    Ok(behind)
-}
-
-/// The arrangement of the words behind the name of a command.
-pub(crate) fn arrange(alloc: Global, words: &[String]) -> Result<Arrangement, WordsFault>
-    ensures ok { IfOk result (λ given. IsArranged (map string_bytes words.now) given) }
-    ensures usage { result ≡ Err Usage
-        → (given : Arrangement) → ¬ (IsArranged (map string_bytes words.now) given) }
-{
-    let mut given = Arrangement {
-        plain: Row::new(alloc),
-        fuels: Row::new(alloc),
-        depths: Row::new(alloc),
-    };
-    let mut rest = words;
-    while let [first, behind @ ..] = rest {
-        let first = first.as_str();
-        if first == "--" {
-            push_words(alloc, &mut given.plain, behind)?;
-            return Ok(given);
+        let word = word.as_str();
+        if word == "--" {
+            return false;
         }
-        rest = add_front(alloc, &mut given, first, behind)?;
+        if is_behind && word == "-" {
+            return true;
+        }
+        is_behind = word == "--fuel" || word == "--depth";
     }
-    Ok(given)
+    false
+}
+
+/// Copies of these words, of which there may be none.
+fn copies(alloc: Global, words: Option<&[&str]>) -> Result<Row<CommandWord>, NoMemory>
+    ensures { IfOk result (λ copies. copies ≡ texts_given words.entry) }
+{
+    let mut copies = Row::new(alloc);
+    let Some(words) = words else {
+        return Ok(copies);
+    };
+    for word in words {
+        copies.push(CommandWord::new(alloc, *word)?)?;
+    }
+    Ok(copies)
+}
+
+/// What an error of `clap` tells of the words.
+fn fault_of(kind: ErrorKind) -> WordsFault
+    ensures usage { result ≡ Usage → kind ≢ OutOfMemory }
+    ensures memory { result ≡ Memory → kind ≡ OutOfMemory }
+{
+    match kind {
+        ErrorKind::OutOfMemory => WordsFault::Memory,
+        _ => WordsFault::Usage,
+    }
+}
+
+/// The name of the command that the words ask for, and the arrangement of the words behind it.
+pub(crate) fn arrange(
+    alloc: Global,
+    words: &[String],
+) -> Result<(CommandName, Arrangement), WordsFault>
+    ensures ok { IfOk result (λ found. IsArrangedAs (map string_bytes words.now) found.0 found.1) }
+    ensures usage { result ≡ Err Usage → HasNoReading (map string_bytes words.now) }
+{
+    if has_dash_value(words) {
+        return Err(WordsFault::Usage);
+    }
+    let matches = match program(alloc)?.try_get_matches_from(words) {
+        Ok(matches) => matches,
+        Err(error) => return Err(fault_of(error.kind())),
+    };
+    let Some((name, given)) = matches.subcommand() else {
+        return Err(WordsFault::Usage);
+    };
+    let Some(name) = name_of(name) else {
+        return Err(WordsFault::Usage);
+    };
+    let plain = copies(alloc, given.get_strs(PLAIN))?;
+    let fuels = copies(alloc, given.get_strs(FUEL))?;
+    let depths = copies(alloc, given.get_strs(DEPTH))?;
+    Ok((
+        name,
+        Arrangement {
+            plain,
+            fuels,
+            depths,
+        },
+    ))
 }

@@ -4,6 +4,7 @@ ghost use Rattle.std.specs.Prelude.{◌≡◌};
 ghost use Rattle.st_words.specs.declared.fault.WordsFault.TheVariants.{Memory};
 
 use st_num::NoMemory;
+use std::alloc::AllocError;
 use thiserror::Error;
 
 /// Why words give no command.
@@ -20,6 +21,14 @@ impl From<NoMemory> for WordsFault {
     ghost from_gives = { λ _ fault. fault ≡ Memory };
 
     fn from(_: NoMemory) -> Self {
+        WordsFault::Memory
+    }
+}
+
+impl From<AllocError> for WordsFault {
+    ghost from_gives = { λ _ fault. fault ≡ Memory };
+
+    fn from(_: AllocError) -> Self {
         WordsFault::Memory
     }
 }

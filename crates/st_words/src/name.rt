@@ -2,6 +2,7 @@
 
 ghost use Rattle.std.specs.Prelude.{◌≡◌, ◌≢◌, MatchOption};
 ghost use Rattle.st_words.specs.Names.{name_spelling};
+ghost use Rattle.st_words.specs.inner.Program.{takes_options};
 ghost use Rattle.st_words.specs.declared.name.CommandName.{CommandName};
 
 /// The name of a command, which is its first word.
@@ -41,10 +42,29 @@ impl CommandName {
             CommandName::Make => "make",
         }
     }
+
+    /// Whether the command takes options.
+    pub(crate) fn takes_options(self) -> bool
+        ensures { result ≡ takes_options self }
+    {
+        match self {
+            CommandName::Run | CommandName::Derive => true,
+            CommandName::Check
+            | CommandName::Il
+            | CommandName::Groups
+            | CommandName::Order
+            | CommandName::Eval
+            | CommandName::Next
+            | CommandName::Verify
+            | CommandName::Prose
+            | CommandName::Latex
+            | CommandName::Make => false,
+        }
+    }
 }
 
 /// The names of the commands.
-const NAMES: [CommandName; 12] = [
+pub(crate) const NAMES: [CommandName; 12] = [
     CommandName::Check,
     CommandName::Il,
     CommandName::Groups,

@@ -5,7 +5,6 @@ ghost use Rattle.st_words.specs.Reads.{Reads, IsOnlyReading, TellsUsage};
 ghost use Rattle.st_words.specs.Arranged.{has_options};
 
 use crate::arrangement::{arrange, is_dashed};
-use crate::name::name_of;
 use crate::table::command_of;
 use crate::{Command, WordsFault};
 use std::alloc::Global;
@@ -16,13 +15,8 @@ pub fn read_words(alloc: Global, words: &[String]) -> Result<Command, WordsFault
     ensures only { IfOk result (λ command. IsOnlyReading (map string_bytes words.now) command) }
     ensures usage { IfErr result (λ fault. TellsUsage (map string_bytes words.now) fault) }
 {
-    let [first, behind @ ..] = words else {
-        return Err(WordsFault::Usage);
-    };
-    let Some(name) = name_of(first.as_str()) else {
-        return Err(WordsFault::Usage);
-    };
-    let given = arrange(alloc, behind)?;
+    let found = arrange(alloc, words)?;
+    let (name, given) = found;
     command_of(name, given)
 }
 

@@ -1,9 +1,11 @@
 -- The one arrangement that words may have, by what stands in front of them.
-use Rattle.std.specs.Prelude.{◌≡◌, ℕ, List, [], ◌∷◌, ◌++◌, drop, codes, not, nat_eq, if◌then◌else◌, Option, Some, None, ◌⊎◌}
+use Rattle.std.specs.Prelude.{◌≡◌, ℕ, List, [], ◌∷◌, ◌++◌, drop, codes, not, nat_eq, if◌then◌else◌, Bool, true, false, ◌&&◌, ◌||◌, Option, Some, None}
 use Rattle.std.specs.List.{starts_with}
 use Rattle.std.specs.Cmp.Lexicographic.{pointwise}
 use Rattle.st_words.specs.declared.arrangement.Arrangement.{Arrangement}
-use Rattle.st_words.specs.Arranged.{begins_with_dash, is_dashed, is_end, plain_words}
+use Rattle.st_words.specs.declared.name.CommandName.{CommandName}
+use Rattle.st_words.specs.Names.{name_spelling}
+use Rattle.st_words.specs.Arranged.{begins_with_dash, is_dashed, is_end, plain_words, IsArranged}
 
 -- an arrangement with a plain word more in front
 abbrev pub with_plain : List ℕ → Option Arrangement → Option Arrangement
@@ -56,15 +58,28 @@ arranged (word ∷ next ∷ words) =
     in_front word (next ∷ words) (arranged (next ∷ words))
     (λ add. as_value add next (arranged words))
 
--- the word is an option with its value in it, which is added to the arrangement
-abbrev pub AddsJoined : Arrangement → Arrangement → List ℕ → Type 0
-AddsJoined before after word =
-    ((value : List ℕ) × (word ≡ codes "--fuel=" ++ value)
-    × (after ≡ record before { fuels = before.fuels ++ value ∷ [] }))
-    ⊎ ((value : List ℕ) × (word ≡ codes "--depth=" ++ value)
-    × (after ≡ record before { depths = before.depths ++ value ∷ [] }))
+-- whether a word names an option whose value is the next word
+abbrev pub names_option : List ℕ → Bool
+names_option word =
+    pointwise nat_eq word (codes "--fuel") || pointwise nat_eq word (codes "--depth")
 
--- the word is no option with its value in it
-pub record IsNotJoined (word : List ℕ) : Type 0 where
-  pub no_fuel : (value : List ℕ) → ¬ (word ≡ codes "--fuel=" ++ value)
-  pub no_depth : (value : List ℕ) → ¬ (word ≡ codes "--depth=" ++ value)
+-- whether a word is `-`
+abbrev pub is_dash : List ℕ → Bool
+is_dash word = pointwise nat_eq word (codes "-")
+
+-- the same, where the first word stands behind one that names an option, or does not
+unfoldable pub dash_value_from : Bool → List (List ℕ) → Bool
+dash_value_from is_behind [] = false
+dash_value_from is_behind (word ∷ words) =
+    if is_end word then false
+    else if is_behind && is_dash word then true
+    else dash_value_from (names_option word) words
+
+-- whether a word `-` stands directly behind `--fuel` or `--depth`, before the first `--`
+abbrev pub has_dash_value : List (List ℕ) → Bool
+has_dash_value words = dash_value_from false words
+
+-- the words are this name, and others that are arranged so
+abbrev pub IsArrangedAs : List (List ℕ) → CommandName → Arrangement → Type 0
+IsArrangedAs words name given =
+    (behind : List (List ℕ)) × (words ≡ name_spelling name ∷ behind) × IsArranged behind given
