@@ -34,14 +34,14 @@ sentence-Loop il s how names inner is =
 pub two_parts : (old a r : List ℕ) → (old ++ a) ++ r ≡ old ++ (a ++ r)
 two_parts old a r = append_assoc old a r
 
-pub four_parts : (old a e b d : List ℕ) → (old ++ (a ++ (e ++ b))) ++ d ≡ old ++ (a ++ (e ++ (b ++ d)))
-four_parts old a e b d = grind (arith, common_steps)
+pub let_parts : (old a e b p d : List ℕ) → (old ++ (a ++ e ++ b)) ++ (p ++ d) ≡ old ++ (a ++ e ++ b ++ p ++ d)
+let_parts old a e b p d = grind (arith, common_steps)
 
-pub six_parts : (old a x b k c d : List ℕ) → (old ++ (a ++ (x ++ (b ++ (k ++ c))))) ++ d ≡ old ++ (a ++ (x ++ (b ++ (k ++ (c ++ d)))))
-six_parts old a x b k c d = grind (arith, common_steps)
+pub goal_parts : (old a r b i c o d : List ℕ) → ((old ++ (a ++ r)) ++ (b ++ i ++ c)) ++ (o ++ d) ≡ old ++ (a ++ r ++ b ++ i ++ c ++ o ++ d)
+goal_parts old a r b i c o d = grind (arith, common_steps)
 
-pub goal_parts : (old a r b i c d : List ℕ) → ((old ++ (a ++ r)) ++ (b ++ (i ++ c))) ++ d ≡ old ++ (a ++ (r ++ (b ++ (i ++ (c ++ d)))))
-goal_parts old a r b i c d = grind (arith, common_steps)
+pub loop_parts : (old a x b k c d : List ℕ) → (old ++ (a ++ x ++ b ++ k ++ c)) ++ d ≡ old ++ (a ++ x ++ b ++ k ++ c ++ d)
+loop_parts old a x b k c d = grind (arith, common_steps)
 
 take_all : {A : Type 0} (xs : List A) (i : ℕ) → length xs ≤ i → take i xs ≡ xs
 take_all xs i h = grind (arith, common_steps)

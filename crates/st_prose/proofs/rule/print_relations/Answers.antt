@@ -4,5 +4,5 @@ use Rattle.st_prose.proofs.rule.print_relations.Goals as goal
 
 pub loop-i-preserved : goal.loop-i-preserved
 loop-i-preserved c =
-    referred_next (relation_text c.args.index.now c.args.algos.now) c.relations.result.now c.loop-i.i c.index-relations-i.result c.loop-i.out.items _ _
+    referred_next (relation_text c.args.index.now c.args.algos.now) c.relations-relations.result.now c.loop-i.i c.index-relations-i.result c.loop-i.out.items _ _
     c.loop-i-test.true c.index-relations-i.is c.loop-i.invariant c.in_ok-print_relation.ensures
