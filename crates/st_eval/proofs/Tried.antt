@@ -196,9 +196,7 @@ from_all P fun (c ∷ cs) all = at (bytes_eq fun c.fun) (from_all P fun cs (All-
 
 -- one that is referred to, and those behind it
 now_here : (xs : List (Bor ClauseDef)) (i : ℕ) (x : Bor ClauseDef) → i < length xs → x ≡ get_or xs i x → all_now (drop i xs) ≡ x.now ∷ all_now (drop (i + 1) xs)
-now_here [] i x h is = absurd (omega (arith, h))
-now_here (y ∷ ys) zero x h is = ap (λ z. z.now ∷ all_now ys) (sym is)
-now_here (y ∷ ys) (suc i) x h is = now_here ys i x (omega (arith, h)) is
+now_here xs i x h is = ap all_now (drop_more xs i x h ∙ ap (λ z. z ∷ drop (i + 1) xs) (sym is))
 
 now_can : (P : ClauseDef → Type 0) (xs : List (Bor ClauseDef)) (i : ℕ) (x : Bor ClauseDef) → i < length xs → x ≡ get_or xs i x → All P (all_now xs) → P x.now
 now_can P [] i x h is all = absurd (omega (arith, h))
