@@ -1,5 +1,5 @@
 -- The sentences of steps, and texts that are printed in parts.
-use Rattle.std.proofs.Common.{◌≡◌, sym, ◌∙◌, ap, ℕ, ◌≤◌, List, [], ◌∷◌, ◌++◌, append_assoc, length, flat_map, take, codes, arith}
+use Rattle.std.proofs.Common.{◌≡◌, sym, ◌∙◌, ap, ℕ, ◌≤◌, List, ◌∷◌, ◌++◌, append_assoc, length, flat_map, take, codes, arith}
 use Rattle.std.proofs.lemmas.Grind.{common_steps}
 use Rattle.st_il.specs.declared.definition.Il.{Il}
 use Rattle.st_il.specs.declared.expression.IlExp.{IlExp}

@@ -1,4 +1,4 @@
-use Rattle.std.proofs.Common.{◌≡◌, List, ℕ, ◌++◌, codes, ap, ap₂, ◌∙◌, subst, OnOk}
+use Rattle.std.proofs.Common.{◌≡◌, List, ℕ, ◌++◌, codes, ap₂, ◌∙◌, subst, OnOk}
 use Rattle.st_prose.proofs.SentenceParts.{two_parts}
 use Rattle.st_prose.proofs.step.print_goal.Goals as goal
 
