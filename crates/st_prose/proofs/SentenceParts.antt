@@ -31,9 +31,6 @@ sentence-Loop il s how names inner is =
 
 -- ---- texts in parts
 
-pub two_parts : (old a r : List ℕ) → (old ++ a) ++ r ≡ old ++ (a ++ r)
-two_parts old a r = append_assoc old a r
-
 pub let_parts : (old a e b p d : List ℕ) → (old ++ (a ++ e ++ b)) ++ (p ++ d) ≡ old ++ (a ++ e ++ b ++ p ++ d)
 let_parts old a e b p d = grind (arith, common_steps)
 
