@@ -1,5 +1,5 @@
 -- An iteration whose body is a name without letters is printed as its mark alone.
-use Rattle.std.proofs.Common.{◌≡◌, refl, sym, ◌∙◌, ap, ℕ, List, [], ◌∷◌, ◌++◌, append-nil}
+use Rattle.std.proofs.Common.{◌≡◌, refl, ◌∙◌, ap, ℕ, List, [], ◌++◌, append-nil}
 use Rattle.st_el.specs.declared.context.Around.TheVariants.{Brackets}
 use Rattle.st_el.specs.declared.context.Behind.{Behind}
 use Rattle.st_el.specs.declared.context.Behind.TheVariants as behind
@@ -11,11 +11,11 @@ use Rattle.st_el.specs.declared.expression.Node.{Node, out-Node, fold_out-Node}
 use Rattle.st_el.specs.declared.expression.Node.TheVariants as node
 use Rattle.st_el.specs.Contexts.{operand_before, whole}
 use Rattle.st_el.specs.Plain.{nowhere}
-use Rattle.st_el.specs.SourceText.{parts_printed, opened, printed, printed_node, printed_mark, printed_mark_at, printed_node_at, printed_step_at, printed_exp_at, text_at, source_text}
+use Rattle.st_el.specs.SourceText.{parts_printed, printed, printed_node, printed_mark, printed_mark_at, printed_node_at, printed_step_at, printed_exp_at, text_at, source_text}
 use Rattle.st_el.specs.Wrappings.{IterationText, Printed}
 use Rattle.st_erase.specs.declared.erased.Erased.{Erased}
 use Rattle.st_erase.specs.Places as places
-use Rattle.st_erase.specs.Erasure.{Item, plain_form, exp_at, iteration_at, item_at, segment_at, erased, erased_iteration, erased_item, erased_segment, erased_exp}
+use Rattle.st_erase.specs.Erasure.{Item, plain_form, exp_at, iteration_at, item_at, segment_at, erased, erased_iteration, erased_item, erased_segment}
 use Rattle.st_el.specs.declared.expression.Seg.{Seg}
 use Rattle.st_il.specs.declared.definition.Il.{Il}
 use Rattle.st_il.specs.declared.definition.IlDef.{IlDef}

@@ -1,5 +1,5 @@
 -- The sentences of steps, and texts that are printed in parts.
-use Rattle.std.proofs.Common.{◌≡◌, sym, ◌∙◌, ap, ℕ, ◌≤◌, List, [], ◌∷◌, ◌++◌, append_assoc, length, flat_map, take, codes, arith}
+use Rattle.std.proofs.Common.{◌≡◌, sym, ◌∙◌, ap, ℕ, ◌≤◌, List, ◌∷◌, ◌++◌, append_assoc, length, flat_map, take, codes, arith}
 use Rattle.std.proofs.lemmas.Grind.{common_steps}
 use Rattle.st_il.specs.declared.definition.Il.{Il}
 use Rattle.st_il.specs.declared.expression.IlExp.{IlExp}
@@ -30,9 +30,6 @@ sentence-Loop il s how names inner is =
     sentence-level il s (AlgoStep-F.Loop how names inner) (ap out-AlgoStep is ∙ step.outs-Loop how names inner)
 
 -- ---- texts in parts
-
-pub two_parts : (old a r : List ℕ) → (old ++ a) ++ r ≡ old ++ (a ++ r)
-two_parts old a r = append_assoc old a r
 
 pub let_parts : (old a e b p d : List ℕ) → (old ++ (a ++ e ++ b)) ++ (p ++ d) ≡ old ++ (a ++ e ++ b ++ p ++ d)
 let_parts old a e b p d = grind (arith, common_steps)

@@ -3,7 +3,7 @@
 //! What comes in is an internal language with its algorithms; what goes out is a text for readers.
 //!
 //! The one idea: a step is a sentence with expressions in it, and these are erased, so that they
-//! stand as the author wrote them.
+//! stand in the author's notation.
 //!
 //! Read `specs/Sentences.antt`, the table, and `specs/ProseText.antt` first. Both are told in
 //! `docs/printing.md`.

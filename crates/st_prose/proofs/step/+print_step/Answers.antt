@@ -25,4 +25,13 @@ returns-in_ok-print_all-in-Goal t c =
     c.print_all-in-Goal-2.ensures
 
 pub returns-in_ok-print_loop-in-Loop : goal.returns-in_ok-print_loop-in-Loop
-returns-in_ok-print_loop-in-Loop t c = ?
+returns-in_ok-print_loop-in-Loop t c =
+    let P : List ℕ → Type 0 = λ text. OnOk c.print_step.result (c.print_step.new.out.items ≡ text) in
+    let inner : List ℕ = sentence c.args.index.now c.in-Loop.inner in
+    let front : List (List ℕ) → List ℕ = λ names. codes "For " ++ listed names ++ codes " under " ++ mark_text c.args.index.now c.in-Loop.how ++ codes ": " in
+    subst P
+    (ap (λ z. c.print_loop.new.out.items ++ sentence c.args.index.now z) c.get.ensures
+    ∙ ap (λ z. z ++ inner) (c.in_ok-print_loop-in-Loop.ensures ∙ ap (λ names. c.args.out.now.items ++ front names) c.as_slice.ensures)
+    ∙ loop_parts c.args.out.now.items (codes "For ") (listed c.in-Loop.names) (codes " under ") (mark_text c.args.index.now c.in-Loop.how) (codes ": ") inner
+    ∙ ap (λ z. c.args.out.now.items ++ z) (sym (sentence-Loop c.args.index.now c.args.step.now c.in-Loop.how c.in-Loop.names c.in-Loop.inner c.in-Loop.is)))
+    c.print_step.ensures
