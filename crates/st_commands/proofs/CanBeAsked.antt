@@ -1,5 +1,5 @@
 -- What can be asked of a relation and searched, and what is derivable then.
-use Rattle.std.proofs.Common.{◌≡◌, ◌≤◌, sym, ◌∙◌, subst, true, false, List, None}
+use Rattle.std.proofs.Common.{◌≡◌, sym, ◌∙◌, subst, true, false, List, None}
 use Rattle.st_algo.specs.declared.algorithm.Algos.{Algos}
 use Rattle.st_algo.specs.Lowered.{AreLowered}
 use Rattle.st_il.specs.declared.definition.Il.{Il}
@@ -8,16 +8,15 @@ use Rattle.st_ilcheck.specs.Typed.{Typed}
 use Rattle.st_order.specs.Modes.{HasFew, AreModes}
 use Rattle.st_order.specs.declared.relation_modes.Modes.{Modes}
 use Rattle.st_search.specs.Proper.{IsProper}
-use Rattle.st_search.specs.Searchable.{IsSearchable, HasNoOtherwise}
+use Rattle.st_search.specs.Searchable.{IsSearchable}
 use Rattle.st_semantics.specs.Breaches.{KeepModes}
 use Rattle.st_il.specs.Definitions.{syntaxes}
 use Rattle.st_semantics.specs.Laws.{LawOfTerms, LawOfJudgements}
 use Rattle.st_semantics.specs.Marks.{HasMark}
 use Rattle.st_semantics.specs.Typing.{ConclusionsAreTyped}
 use Rattle.st_commands.specs.declared.searches.Question.{Question}
-use Rattle.st_runs.specs.declared.searching.Searching.{Searching}
-use Rattle.st_commands.specs.inner.Asking.{asks_steps, depth_of, CanBeAsked, CanBeSearched}
-use Rattle.st_runs.specs.inner.Searching.{CanSearch, LeadsOn, GivesTyped}
+use Rattle.st_commands.specs.inner.Asking.{asks_steps, CanBeAsked, CanBeSearched}
+use Rattle.st_runs.specs.inner.Searching.{LeadsOn, GivesTyped}
 use Rattle.st_commands.proofs.AskLemmas.{is_declared, without_steps, leads_on, gives_typed, table_of}
 
 -- what is known of languages that are typed, keep the rules on modes and are proper
@@ -36,14 +35,9 @@ module _ (q : Question) (can : CanBeAsked q) (searched : CanBeSearched q) (langu
   pub CanBeAsked-language : (types : List SyntaxDef) → types ≡ q.decls.now.types → IsSearchable q.il.now types algos
   CanBeAsked-language types is = subst (λ ts. IsSearchable q.il.now ts algos) (sym (is ∙ table_of q.il.now q.decls.now can.decls)) language
 
-  -- the relation can be searched
-  pub CanBeAsked-can_search : (s : Searching) → s.language.now ≡ q.il.now → s.relation.now ≡ q.relation.now → s.depth ≡ depth_of q.asked → CanSearch s
-  CanBeAsked-can_search s il_is relation_is depth_is = record {
-    relation = subst (λ il. HasMark il false s.relation.now None) (sym il_is)
-        (subst (λ r. HasMark q.il.now false r None) (sym relation_is) (without_steps q.il.now (asks_steps q.asked) q.relation.now searched.mark));
-    plain = subst (λ il. HasNoOtherwise il s.relation.now) (sym il_is) (subst (HasNoOtherwise q.il.now) (sym relation_is) searched.plain);
-    depth = subst (λ n. 1 ≤ n) (sym depth_is) can.depth;
-  }
+  -- the relation has no mark in a language that is this one, whether or not it is to be run
+  pub CanBeAsked-marked : (il : Il) → il ≡ q.il.now → HasMark il false q.relation.now None
+  CanBeAsked-marked il is = subst (λ z. HasMark z false q.relation.now None) (sym is) (without_steps q.il.now (asks_steps q.asked) q.relation.now searched.mark)
 
   -- what is derivable has the types of the outputs
   pub CanBeAsked-typed : LawOfJudgements → LawOfConclusions → GivesTyped q.il.now q.relation.now

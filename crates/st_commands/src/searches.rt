@@ -1,7 +1,9 @@
 //! What `run` and `next` say of a relation over the files of a specification, and of a term.
 
-ghost use Rattle.std.specs.Prelude.{◌≡◌, ◌≤◌, ◌<◌, ◌^◌, None, length, All, IfOk};
+ghost use Rattle.std.specs.Prelude.{true, false, ◌≡◌, ◌≤◌, ◌<◌, ◌^◌, None, length, All, IfOk};
 ghost use Rattle.st_order.specs.Modes.{HasFew};
+ghost use Rattle.st_runs.specs.inner.Searching.{LeadsOn, GivesTyped};
+ghost use Rattle.st_search.specs.Searchable.{HasNoOtherwise};
 ghost use Rattle.st_semantics.specs.Goals.{AreInputs};
 ghost use Rattle.st_semantics.specs.Marks.{HasMark};
 ghost use Rattle.st_source.specs.Faults.{source_limit};
@@ -19,7 +21,7 @@ use st_num::{Fault, Name, NoMemory, Row};
 use st_order::masks::mask_under;
 use st_order::{Modes, directions_of, relations_of};
 use st_runs::{Searching, next, run};
-use st_search::{proper, searched_language, typed_languages_are_searchable};
+use st_search::{SearchedLanguage, proper, searched_language, typed_languages_are_searchable};
 use st_semantics::meaning_of_rules;
 use st_source::{Specification, read_specification};
 use st_term::{input_types, typed_term};
@@ -82,6 +84,34 @@ fn types_of_inputs(alloc: Global, il: &Il, relation: &Name) -> Result<Row<Ty>, N
     }
 }
 
+/// Searches a relation of a language that is known from a term.
+fn ask_known(
+    alloc: Global,
+    language: &SearchedLanguage<'_>,
+    relation: &Name,
+    asked: Asked,
+    term: Row<Value>,
+) -> Result<Answer, NoMemory>
+    requires mark { HasMark language.now false relation.now None }
+    requires plain { HasNoOtherwise language.now relation.now }
+    requires depth { 1 ≤ depth_of asked }
+    requires typed { GivesTyped language.now relation.now }
+    requires leads { asks_steps asked ≡ true → LeadsOn language.now relation.now }
+    requires term { AreInputs language.now relation.now term }
+    ensures { IfOk result (λ answer. asked_says asked relation.now language.now term answer.status
+        answer.bytes.items) }
+{
+    let searching = Searching {
+        language,
+        relation,
+        depth: depth_of(asked),
+    };
+    match asked {
+        Asked::Next(_) => next(alloc, &searching, term.as_slice()),
+        Asked::Run(fuel, _) => run(alloc, &searching, fuel, term),
+    }
+}
+
 /// Searches the relation from a term.
 fn ask_term(alloc: Global, question: &Question, term: Row<Value>) -> Result<Answer, NoMemory>
     requires can { CanBeAsked question.now }
@@ -95,15 +125,7 @@ fn ask_term(alloc: Global, question: &Question, term: Row<Value>) -> Result<Answ
     let algos = lower(alloc, question.il, question.modes)?;
     let types = &question.decls.types;
     let language = searched_language(alloc, question.il, types, &algos)?;
-    let searching = Searching {
-        language: &language,
-        relation: question.relation,
-        depth: depth_of(question.asked),
-    };
-    match question.asked {
-        Asked::Next(_) => next(alloc, &searching, term.as_slice()),
-        Asked::Run(fuel, _) => run(alloc, &searching, fuel, term),
-    }
+    ask_known(alloc, &language, question.relation, question.asked, term)
 }
 
 /// The answer where the text of a term has this fault.

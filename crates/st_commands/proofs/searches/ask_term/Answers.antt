@@ -1,10 +1,11 @@
-use Rattle.std.proofs.Common.{refl, sym, ap, subst}
+use Rattle.std.proofs.Common.{refl, sym, subst}
 use Rattle.std.specs.Prelude.{IfOk}
+use Rattle.st_il.specs.declared.definition.Il.{Il}
+use Rattle.st_runs.specs.inner.Searching.{LeadsOn, GivesTyped}
+use Rattle.st_search.specs.Searchable.{HasNoOtherwise}
 use Rattle.st_semantics.specs.Goals.{AreInputs}
-use Rattle.st_runs.specs.Runs.{NextSays}
-use Rattle.st_commands.specs.inner.Asking.{asks_steps}
-use Rattle.st_commands.proofs.AskLemmas.{next_is_said, run_is_said}
-use Rattle.st_commands.proofs.CanBeAsked.{CanBeAsked-language, CanBeAsked-can_search, CanBeAsked-typed, CanBeAsked-leads}
+use Rattle.st_commands.specs.inner.Asking.{asked_says}
+use Rattle.st_commands.proofs.CanBeAsked.{CanBeAsked-language, CanBeAsked-marked, CanBeAsked-typed, CanBeAsked-leads}
 use Rattle.st_commands.proofs.searches.ask_term.Goals as goal
 
 pub searched_language-requires : goal.searched_language-requires
@@ -12,34 +13,23 @@ searched_language-requires c =
     let q = c.args.question.now in
     CanBeAsked-language q c.requires.can c.requires.searched c.typed_languages_are_searchable.ensures.languages c.in_ok-algos.algos c.in_ok-algos.ensures _ refl
 
-pub next-requires : goal.next-requires
-next-requires c =
+pub ask_known-requires : goal.ask_known-requires
+ask_known-requires c =
     let q = c.args.question.now in
     let laws = c.typed_languages_are_searchable.ensures in
+    let same = sym c.in_ok-language.ensures in
     record {
-      can = CanBeAsked-can_search q c.requires.can c.requires.searched laws.languages c.in_ok-algos.algos c.in_ok-algos.ensures _ c.in_ok-language.ensures refl c.depth_of.ensures;
-      typed = CanBeAsked-typed q c.requires.can c.requires.searched laws.languages c.in_ok-algos.algos c.in_ok-algos.ensures c.meaning_of_rules.ensures.judgements laws.conclusions;
-      term = subst (AreInputs q.il.now q.relation.now) (sym c.as_slice.ensures) c.requires.term;
+      mark = CanBeAsked-marked q c.requires.can c.requires.searched laws.languages c.in_ok-algos.algos c.in_ok-algos.ensures _ c.in_ok-language.ensures;
+      plain = subst (λ il. HasNoOtherwise il q.relation.now) same c.requires.searched.plain;
+      depth = c.requires.can.depth;
+      typed = subst (λ il. GivesTyped il q.relation.now) same
+          (CanBeAsked-typed q c.requires.can c.requires.searched laws.languages c.in_ok-algos.algos c.in_ok-algos.ensures c.meaning_of_rules.ensures.judgements laws.conclusions);
+      leads = λ runs. subst (λ il. LeadsOn il q.relation.now) same
+          (CanBeAsked-leads q c.requires.can c.requires.searched laws.languages c.in_ok-algos.algos c.in_ok-algos.ensures c.meaning_of_rules.ensures.terms laws.conclusions runs);
+      term = subst (λ il. AreInputs il q.relation.now c.args.term) same c.requires.term;
     }
 
-pub returns-in-Next : goal.returns-in-Next
-returns-in-Next c =
+pub returns : goal.returns
+returns c =
     let q = c.args.question.now in
-    next_is_said q.asked q.il.now q.relation.now c.depth_of.result c.in-Next.field-0 c.args.term c.next.result c.in-Next.is c.depth_of.ensures
-    (subst (λ t. IfOk c.next.result (λ given. NextSays q.il.now q.relation.now c.depth_of.result t given.status given.bytes.items)) c.as_slice.ensures c.next.ensures)
-
-pub run-requires : goal.run-requires
-run-requires c =
-    let q = c.args.question.now in
-    let laws = c.typed_languages_are_searchable.ensures in
-    record {
-      can = CanBeAsked-can_search q c.requires.can c.requires.searched laws.languages c.in_ok-algos.algos c.in_ok-algos.ensures _ c.in_ok-language.ensures refl c.depth_of.ensures;
-      leads = CanBeAsked-leads q c.requires.can c.requires.searched laws.languages c.in_ok-algos.algos c.in_ok-algos.ensures c.meaning_of_rules.ensures.terms laws.conclusions
-          (ap asks_steps c.in-Run.is);
-      start = c.requires.term;
-    }
-
-pub returns-in-Run : goal.returns-in-Run
-returns-in-Run c =
-    let q = c.args.question.now in
-    run_is_said q.asked q.il.now q.relation.now c.in-Run.fuel c.depth_of.result c.in-Run.field-1 c.args.term c.run.result c.in-Run.is c.depth_of.ensures c.run.ensures
+    subst (λ (il : Il). IfOk c.ask_known.result (λ given. asked_says q.asked q.relation.now il c.args.term given.status given.bytes.items)) c.in_ok-language.ensures c.ask_known.ensures
