@@ -17,7 +17,7 @@ run_all-requires-clause-rules g c = (
 
 pub returns-in_err-found-in-Some-clause-ends : goal.returns-in_err-found-in-Some-clause-ends
 returns-in_err-found-in-Some-clause-ends g c =
-    told_again (λ (fault : SearchFault). (left : ℕ) → AnswersGoals c.args.search.now.setting.index.now c.args.search.now.setting.depth left (g.F.Finder.answers c.args.finder.now) → CanBeSearched c.args.search.now.setting.index.now c.args.relation.now → EndsBehind c.args.search.now.setting.index.now c.args.search.now.setting.depth left (goal_of c.args.relation.now c.args.inputs.now) fault) c.from_residual-in_err-found-in-Some.result c.in_err-found-in-Some.field-0.0 c.from_residual-in_err-found-in-Some.ensures.1 (λ left answers can.
+    told_again (λ (fault : SearchFault). (left : ℕ) → AnswersGoals c.args.search.now.setting.index.now c.args.search.now.setting.depth left (g.F.Finder.answers c.args.finder.now) → CanBeSearched c.args.search.now.setting.index.now c.args.relation.now → EndsBehind c.args.search.now.setting.index.now c.args.search.now.setting.depth left (goal_of c.args.relation.now c.args.inputs.now) fault) c.from_residual.result c.in_err-found-in-Some.field-0.0 c.from_residual.ensures.1 (λ left answers can.
     c.in_err-found-in-Some.ensures.ends left (goal_of c.args.relation.now c.args.inputs.now) answers can refl (first_is c.args.search.now.setting.index.now c.in-Some.number c.args.relation.now c.in-Some.ensures.first))
 
 pub returns-in-None-clause-found : goal.returns-in-None-clause-found

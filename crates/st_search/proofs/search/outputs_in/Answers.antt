@@ -13,7 +13,7 @@ pub returns-in_err-found : goal.returns-in_err-found
 returns-in_err-found c =
     let il = c.args.language.now in
     let asked = goal_of c.args.relation.now c.args.input.now in
-    let failed = err_from_is_err_and c.from_residual-in_err-found.result c.from_residual-in_err-found.ensures.1 in
+    let failed = err_from_is_err_and c.from_residual.result c.from_residual.ensures.1 in
     let can = can_be_searched il (subst (λ (z : Il). All (CanBeRun z) (rules_in z.defs)) c.language.view_is c.language.invariant.searchable.rules) c.args.relation.now c.requires.relation c.requires.plain in
     subst (IsAnswer il c.args.depth asked) (sym (failed.1 ∙ ap Err failed.2))
     (answer_fault il c.args.depth asked c.in_err-found.field-0.0 can c.requires.input (subst (λ (z : Il). IsSolved z c.args.depth c.args.depth asked (Err c.in_err-found.field-0.0)) c.language.view_is c.in_err-found.ensures.solved))
