@@ -15,7 +15,7 @@ returns-in-Accepted c =
     are_specified (asks_steps c.args.asked) (asked_says c.args.asked c.args.relation.now) c.args.names.now c.args.relation.now c.args.text.now c.args.files.now _ c.in-Accepted.definitions
     c.in-Accepted.elaborated c.in-Accepted.modes c.ask_language.result c.in_ok-specification.ensures c.in-Accepted.is c.ask_language.ensures
 
-pub returns-in-Refused : goal.returns-in-Refused
-returns-in-Refused c =
+pub returns : goal.returns
+returns c =
     are_refused (asks_steps c.args.asked) (asked_says c.args.asked c.args.relation.now) c.args.names.now c.args.relation.now c.args.text.now c.args.files.now _ c.in-Refused.answer
     c.in_ok-specification.ensures c.in-Refused.is
