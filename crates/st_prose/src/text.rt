@@ -7,9 +7,26 @@ use crate::clause::print_functions;
 use crate::rule::print_relations;
 use st_algo::Algos;
 use st_il::Il;
-use st_index::index_of;
+use st_index::{Index, index_of};
 use st_num::NoMemory;
 use std::alloc::Global;
+
+/// Appends the prose of an indexed language. Where memory is wanting nothing is appended.
+fn print_prose(
+    alloc: Global,
+    index: &Index,
+    algos: &Algos,
+    out: &mut Vec<u8>,
+) -> Result<(), NoMemory>
+    ensures ok { OnOk result (out.new.items ≡ out.old.items ++ prose_text index.now algos.now) }
+    ensures err { OnErr result (out.new.items ≡ out.old.items) }
+{
+    let mut text = Vec::new(alloc);
+    print_relations(alloc, index, algos, &mut text)?;
+    print_functions(alloc, index, algos, &mut text)?;
+    out.extend_from_slice(text.as_slice())?;
+    Ok(())
+}
 
 /// Appends the prose of an internal language and its algorithms: relations, and then functions.
 /// Where memory is wanting nothing is appended.
@@ -18,9 +35,5 @@ pub fn prose(alloc: Global, il: &Il, algos: &Algos, out: &mut Vec<u8>) -> Result
     ensures err { OnErr result (out.new.items ≡ out.old.items) }
 {
     let index = index_of(alloc, il)?;
-    let mut text = Vec::new(alloc);
-    print_relations(alloc, &index, algos, &mut text)?;
-    print_functions(alloc, &index, algos, &mut text)?;
-    out.extend_from_slice(text.as_slice())?;
-    Ok(())
+    print_prose(alloc, &index, algos, out)
 }
