@@ -18,7 +18,7 @@ use Rattle.st_ilcheck.specs.Typed.{Typed, AllKeep, Breaks}
 use Rattle.st_order.specs.Tagged.{IsTagged}
 use Rattle.st_il.specs.Names.{Name}
 use Rattle.st_il.specs.Definitions.{syntaxes, relations, relations_in}
-use Rattle.st_semantics.specs.Directions.{mask, inputs_by, inputs_of, outputs_of}
+use Rattle.st_semantics.specs.Directions.{mask, inputs_of, outputs_of}
 use Rattle.st_semantics.specs.Environments.{AreTypedValues}
 use Rattle.st_semantics.specs.Goals.{AreInputs}
 use Rattle.st_semantics.specs.Laws.{LawOfTerms, LawOfJudgements}

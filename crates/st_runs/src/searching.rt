@@ -1,8 +1,6 @@
 //! A relation that is searched, and one step of a run.
 
-ghost use Rattle.std.specs.Prelude.{◌≡◌, IfOk, MatchOption};
-ghost use Rattle.st_il.specs.declared.value.Value.{Value as Operand};
-ghost use Rattle.st_search.specs.declared.answer.Output.{Output as Found};
+ghost use Rattle.std.specs.Prelude.{IfOk};
 ghost use Rattle.st_semantics.specs.Goals.{AreInputs};
 ghost use Rattle.st_runs.specs.inner.Searching.{CanSearch, SearchesTo, StepsTo};
 
