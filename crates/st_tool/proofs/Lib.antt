@@ -3,3 +3,4 @@ mod Loading
 mod Outcomes
 mod WrittenLemmas
 mod DerivedAccepted
+mod ReadBack

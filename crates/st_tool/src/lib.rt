@@ -10,7 +10,7 @@
 ghost use Rattle.std.specs.Prelude.{◌≡◌, map, string_bytes};
 ghost use Rattle.st_outside.specs.Counts.{Rose};
 ghost use Rattle.st_tool.specs.Causes.{IsLoadFault, FaultIsTold};
-ghost use Rattle.st_tool.specs.Laws.{DerivedIsAccepted, AcceptedIsSound};
+ghost use Rattle.st_tool.specs.Laws.{DerivedIsAccepted, AcceptedIsSound, PrintedIsReadBack};
 ghost use Rattle.st_tool.specs.Loads.{counts_of};
 ghost use Rattle.st_tool.specs.Outcome.{Written};
 
@@ -45,6 +45,7 @@ pub fn serve<F: Files, K: Sink>(
         (counts_of (F.loads files.new) (F.faults files.new) (F.last files.new)) result }
     ensures accepted { DerivedIsAccepted }
     ensures sound { AcceptedIsSound }
+    ensures read_back { PrintedIsReadBack }
     ensures write { result ≡ Status.Write → Rose (K.faults out.old) (K.faults out.new) }
 {
     match answer_words(alloc, words.as_slice(), files) {

@@ -3,6 +3,7 @@ use Rattle.st_outside.specs.Sink.{Takes}
 use Rattle.st_tool.specs.Loads.{counts_of}
 use Rattle.st_tool.specs.Outcome.{HasOutcome}
 use Rattle.st_tool.proofs.DerivedAccepted.{derived_is_accepted, accepted_is_sound}
+use Rattle.st_tool.proofs.ReadBack.{printed_is_read_back}
 use Rattle.st_tool.proofs.WrittenLemmas.{all_written, load_fault, fault_told, no_write}
 use Rattle.st_tool.proofs.serve.Goals as goal
 
@@ -60,3 +61,12 @@ returns-in-Ok-write_all_of-clause-sound g c = accepted_is_sound
 
 pub returns-clause-sound : goal.returns-clause-sound
 returns-clause-sound g c = accepted_is_sound
+
+pub returns-in-Err-clause-read_back : goal.returns-in-Err-clause-read_back
+returns-in-Err-clause-read_back g c = printed_is_read_back
+
+pub returns-in-Ok-write_all_of-clause-read_back : goal.returns-in-Ok-write_all_of-clause-read_back
+returns-in-Ok-write_all_of-clause-read_back g c = printed_is_read_back
+
+pub returns-clause-read_back : goal.returns-clause-read_back
+returns-clause-read_back g c = printed_is_read_back
